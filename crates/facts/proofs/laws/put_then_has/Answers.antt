@@ -1,0 +1,12 @@
+use mathlib.Core.Path.{ap, _∙_}
+use Rattle.facts.specs.Facts.{Facts}
+use Rattle.facts.proofs.Sets.{put-stays, put-has}
+use Rattle.facts.proofs.laws.put_then_has.Needs as need
+
+pub returns : need.returns
+returns g c = record {
+  kept = λ h. c .has-there .ensures .kept (c .put-answer .ensures .kept h);
+  told = λ h. c .has-there .ensures .value (c .put-answer .ensures .kept h)
+      ∙ put-has _ _ _ _ _ _ (g .S·Store .only (c .args .store .now) h) (c .put-answer .ensures .does h);
+  does = λ h. put-stays _ _ _ _ _ _ _ _ (c .put-answer .ensures .does h) (c .has-there .ensures .facts, c .has-there .ensures .room);
+}

@@ -1,0 +1,52 @@
+// What every store of facts promises: a set of facts, and a spare, the number of further facts that it takes.
+// The promise is made of a sound store: every constructor makes one, and every call keeps it so.
+ghost use mathlib.Core.Path.{_≡_};
+ghost use Prim.Native.Nat.{ℕ, _≤_};
+ghost use Rattle.facts.specs.Facts.{Facts};
+ghost use Rattle.facts.specs.Stores.{Only, Empty, Decides, Put, Take};
+use crate::fact::Fact;
+use crate::refusal::Refusal;
+
+pub trait Store {
+    // The most facts that a store of this kind can take.
+    const MOST: usize;
+
+    ghost limit: { ℕ };
+
+    ghost facts: { Self → Facts };
+
+    ghost room: { Self → ℕ };
+
+    ghost sound: { Self → Type 0 };
+
+    // Only facts are in the set.
+    ghost only: { (s : Self) → sound s → Only (facts s) };
+
+    // The spare never exceeds the most.
+    ghost bounded: { (s : Self) → room s ≤ limit };
+
+    fn most_facts() -> usize
+        ensures { λ r. ⌜ r ≡ limit ⌝ };
+
+    fn has(&mut self, fact: Fact) -> bool
+        ensures value { λ r. ⌜ (sound (now (self .entry)) → r ≡ facts (now (self .entry)) fact) ⌝ }
+        ensures kept { λ _. ⌜ (sound (now (self .entry)) → sound (now (self .exit))) ⌝ }
+        ensures facts { λ _. ⌜ facts (now (self .exit)) ≡ facts (now (self .entry)) ⌝ }
+        ensures room { λ _. ⌜ room (now (self .exit)) ≡ room (now (self .entry)) ⌝ };
+
+    fn put(&mut self, fact: Fact) -> Result<(), Refusal>
+        ensures kept { λ _. ⌜ (sound (now (self .entry)) → sound (now (self .exit))) ⌝ }
+        ensures does { λ r. ⌜ (sound (now (self .entry))
+            → Put fact (facts (now (self .entry))) (room (now (self .entry))) r (facts (now (self .exit))) (room (now (self .exit)))) ⌝ };
+
+    fn take(&mut self, fact: Fact)
+        ensures kept { λ _. ⌜ (sound (now (self .entry)) → sound (now (self .exit))) ⌝ }
+        ensures does { λ _. ⌜ (sound (now (self .entry))
+            → Take fact (facts (now (self .entry))) (room (now (self .entry))) (facts (now (self .exit))) (room (now (self .exit)))) ⌝ };
+
+    fn spare(&self) -> usize
+        ensures { λ r. ⌜ r ≡ room (now (self .entry)) ⌝ };
+
+    fn empty(&self) -> bool
+        ensures { λ r. ⌜ (sound (now (self .entry)) → Decides r (Empty (facts (now (self .entry))))) ⌝ };
+}
