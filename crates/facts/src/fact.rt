@@ -1,7 +1,9 @@
 // A fact is a kind and three entries, each in the range of its kind.
 // Four numbers that are no fact can be written down too: they are what a store refuses.
 ghost use mathlib.Core.Path.{_≡_};
-ghost use Rattle.facts.specs.Facts.{size, number, kind-of, entries, is-fact, fact};
+ghost use mathlib.Core.Bool.{cond};
+ghost use Rattle.std.specs.declared.option.Option.the-variants.{Some, None};
+ghost use Rattle.facts.specs.Facts.{size, number, kind-of, entries, fact, in-ranges, is-fact};
 
 // What can stand in an entry.
 #[derive(Clone, Copy, PartialEq, Eq, Debug)]
@@ -127,15 +129,25 @@ impl Fact {
         }
     }
 
+    // Whether the entries are in the ranges of the kind.
+    fn fits(self, kind: Kind) -> bool
+        ensures { λ r. ⌜ r ≡ in-ranges kind self ⌝ }
+    {
+        let (first, second, third) = kind.entries();
+        self.a < first.size() && self.b < second.size() && self.c < third.size()
+    }
+
+    // The kind, where the four numbers are a fact.
+    pub fn kind_of_fact(self) -> Option<Kind>
+        ensures { λ r. ⌜ r ≡ cond (is-fact self) (kind-of (self .kind)) None ⌝ }
+    {
+        let kind = Kind::of_number(self.kind)?;
+        if self.fits(kind) { Some(kind) } else { None }
+    }
+
     pub fn is_fact(self) -> bool
         ensures { λ r. ⌜ r ≡ is-fact self ⌝ }
     {
-        match Kind::of_number(self.kind) {
-            None => false,
-            Some(kind) => {
-                let (first, second, third) = kind.entries();
-                self.a < first.size() && self.b < second.size() && self.c < third.size()
-            }
-        }
+        self.kind_of_fact().is_some()
     }
 }

@@ -19,6 +19,9 @@ pub trait Store {
 
     ghost sound: { Self → Type 0 };
 
+    // Of two states: what lies outside the store's part of the caller's memory is the same in both.
+    ghost outside: { Self → Self → Type 0 };
+
     // Only facts are in the set.
     ghost only: { (s : Self) → sound s → Only (facts s) };
 
@@ -32,17 +35,20 @@ pub trait Store {
         ensures value { λ r. ⌜ (sound (now (self .entry)) → r ≡ facts (now (self .entry)) fact) ⌝ }
         ensures kept { λ _. ⌜ (sound (now (self .entry)) → sound (now (self .exit))) ⌝ }
         ensures facts { λ _. ⌜ facts (now (self .exit)) ≡ facts (now (self .entry)) ⌝ }
-        ensures room { λ _. ⌜ room (now (self .exit)) ≡ room (now (self .entry)) ⌝ };
+        ensures room { λ _. ⌜ room (now (self .exit)) ≡ room (now (self .entry)) ⌝ }
+        ensures outside { λ _. ⌜ outside (now (self .entry)) (now (self .exit)) ⌝ };
 
     fn put(&mut self, fact: Fact) -> Result<(), Refusal>
         ensures kept { λ _. ⌜ (sound (now (self .entry)) → sound (now (self .exit))) ⌝ }
         ensures does { λ r. ⌜ (sound (now (self .entry))
-            → Put fact (facts (now (self .entry))) (room (now (self .entry))) r (facts (now (self .exit))) (room (now (self .exit)))) ⌝ };
+            → Put fact (facts (now (self .entry))) (room (now (self .entry))) r (facts (now (self .exit))) (room (now (self .exit)))) ⌝ }
+        ensures outside { λ _. ⌜ outside (now (self .entry)) (now (self .exit)) ⌝ };
 
     fn take(&mut self, fact: Fact)
         ensures kept { λ _. ⌜ (sound (now (self .entry)) → sound (now (self .exit))) ⌝ }
         ensures does { λ _. ⌜ (sound (now (self .entry))
-            → Take fact (facts (now (self .entry))) (room (now (self .entry))) (facts (now (self .exit))) (room (now (self .exit)))) ⌝ };
+            → Take fact (facts (now (self .entry))) (room (now (self .entry))) (facts (now (self .exit))) (room (now (self .exit)))) ⌝ }
+        ensures outside { λ _. ⌜ outside (now (self .entry)) (now (self .exit)) ⌝ };
 
     fn spare(&self) -> usize
         ensures { λ r. ⌜ r ≡ room (now (self .entry)) ⌝ };
