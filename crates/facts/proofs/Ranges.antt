@@ -33,6 +33,16 @@ fact-told f = elim (cases-bool (is-fact f)) [
   | inr n ↦ ap isSome (cond-false (is-fact f) (kind-of (f .kind)) None n) ∙ sym n
 ]
 
+-- what the kind that was told says
+pub none-told : (f : Fact) → None ≡ cond (is-fact f) (kind-of (f .kind)) None → is-fact f ≡ false
+none-told f e = sym (fact-told f) ∙ ap isSome (sym e)
+
+pub some-told : (f : Fact) (k : Kind) → Some k ≡ cond (is-fact f) (kind-of (f .kind)) None
+    → (is-fact f ≡ true) × (kind-of (f .kind) ≡ Some k)
+some-told f k e =
+    let y : is-fact f ≡ true = sym (fact-told f) ∙ ap isSome (sym e) in
+    (y, sym (e ∙ cond-true (is-fact f) (kind-of (f .kind)) None y))
+
 -- the ranges of a fact's entries
 pub record Ranged (f : Fact) : Type 0 where
   pub kind : Kind

@@ -1,0 +1,2 @@
+// Three stores of facts, each with the promise of every store.
+pub mod numbering;
