@@ -43,18 +43,19 @@ at-kind p e k =
     let e10 = and-parts (p OpenCase) _ (e9 .1) in
     let e11 = and-parts (p Taken) _ (e10 .1) in
     elim k as (λ j. p j ≡ true) [
-      UserRole ↦ e1 .0
-    | PermissionRole ↦ e2 .0
-    | TaskRole ↦ e3 .0
-    | Senior ↦ e4 .0
-    | UserConflict ↦ e5 .0
-    | RoleConflict ↦ e6 .0
-    | PermissionConflict ↦ e7 .0
-    | TaskConflict ↦ e8 .0
-    | AtOdds ↦ e9 .0
-    | OpenCase ↦ e10 .0
-    | Taken ↦ e11 .0
-    | Finished ↦ e11 .1 ]
+      | UserRole ↦ e1 .0
+      | PermissionRole ↦ e2 .0
+      | TaskRole ↦ e3 .0
+      | Senior ↦ e4 .0
+      | UserConflict ↦ e5 .0
+      | RoleConflict ↦ e6 .0
+      | PermissionConflict ↦ e7 .0
+      | TaskConflict ↦ e8 .0
+      | AtOdds ↦ e9 .0
+      | OpenCase ↦ e10 .0
+      | Taken ↦ e11 .0
+      | Finished ↦ e11 .1
+    ]
 
 -- how many facts a kind has, and where its numbers end
 abbrev total : Kind → ℕ
@@ -73,10 +74,12 @@ apart-table = refl
 kinds-apart : (j k : Kind) → (number j ≡ number k) ⊎ ((end j ≤ base k) ⊎ (end k ≤ base j))
 kinds-apart j k =
     elim (or-cases (eqb (number j) (number k)) _ (at-kind (apart-test j) (at-kind (λ i. every-kind (apart-test i)) apart-table j) k)) [
-      inl e ↦ inl (eqb-true (number j) (number k) e)
-    | inr o ↦ elim (or-cases (leb (end j) (base k)) (leb (end k) (base j)) o) [
-        inl h ↦ inr (inl (leb-true (end j) (base k) h))
-      | inr h ↦ inr (inr (leb-true (end k) (base j) h)) ] ]
+      | inl e ↦ inl (eqb-true (number j) (number k) e)
+      | inr o ↦ elim (or-cases (leb (end j) (base k)) (leb (end k) (base j)) o) [
+        | inl h ↦ inr (inl (leb-true (end j) (base k) h))
+        | inr h ↦ inr (inr (leb-true (end k) (base j) h))
+      ]
+    ]
 
 end-table : every-kind (λ k. leb (end k) 177184) ≡ true
 end-table = refl
@@ -114,25 +117,62 @@ same-kind j k e =
 
 one-more : (n i : ℕ) (j k : Kind) (o : Option Kind) → cond (eqb n i) (Some j) o ≡ Some k → ((n ≡ i) × (j ≡ k)) ⊎ (o ≡ Some k)
 one-more n i j k o e = elim (cases-bool (eqb n i)) [
-      inl y ↦ inl (eqb-true n i y, (let p : Some j ≡ Some k = sym (cond-true (eqb n i) (Some j) o y) ∙ e in cc))
-    | inr d ↦ inr (sym (cond-false (eqb n i) (Some j) o d) ∙ e) ]
+  | inl y ↦ inl (eqb-true n i y, (let p : Some j ≡ Some k = sym (cond-true (eqb n i) (Some j) o y) ∙ e in cc))
+  | inr d ↦ inr (sym (cond-false (eqb n i) (Some j) o d) ∙ e)
+]
 
 number-of-kind : (n : ℕ) (k : Kind) → kind-of n ≡ Some k → n ≡ number k
 number-of-kind n k e =
     let found : (j : Kind) → (n ≡ number j) × (j ≡ k) → n ≡ number k = λ j p. p .0 ∙ ap number (p .1) in
-    elim (one-more n 1 UserRole k _ e) [ inl p ↦ found UserRole p | inr e1 ↦
-    elim (one-more n 2 PermissionRole k _ e1) [ inl p ↦ found PermissionRole p | inr e2 ↦
-    elim (one-more n 3 TaskRole k _ e2) [ inl p ↦ found TaskRole p | inr e3 ↦
-    elim (one-more n 4 Senior k _ e3) [ inl p ↦ found Senior p | inr e4 ↦
-    elim (one-more n 5 UserConflict k _ e4) [ inl p ↦ found UserConflict p | inr e5 ↦
-    elim (one-more n 6 RoleConflict k _ e5) [ inl p ↦ found RoleConflict p | inr e6 ↦
-    elim (one-more n 7 PermissionConflict k _ e6) [ inl p ↦ found PermissionConflict p | inr e7 ↦
-    elim (one-more n 8 TaskConflict k _ e7) [ inl p ↦ found TaskConflict p | inr e8 ↦
-    elim (one-more n 9 AtOdds k _ e8) [ inl p ↦ found AtOdds p | inr e9 ↦
-    elim (one-more n 10 OpenCase k _ e9) [ inl p ↦ found OpenCase p | inr e10 ↦
-    elim (one-more n 11 Taken k _ e10) [ inl p ↦ found Taken p | inr e11 ↦
-    elim (one-more n 12 Finished k _ e11) [ inl p ↦ found Finished p | inr e12 ↦
-    let p : _≡_ {A = Option Kind} None (Some k) = e12 in let z : _≡_ {A = ℕ} 0 1 = cc in absurd (omega arith) ] ] ] ] ] ] ] ] ] ] ] ]
+    elim (one-more n 1 UserRole k _ e) [
+      | inl p ↦ found UserRole p
+      | inr e1 ↦
+          elim (one-more n 2 PermissionRole k _ e1) [
+            | inl p ↦ found PermissionRole p
+            | inr e2 ↦
+                elim (one-more n 3 TaskRole k _ e2) [
+                  | inl p ↦ found TaskRole p
+                  | inr e3 ↦
+                      elim (one-more n 4 Senior k _ e3) [
+                        | inl p ↦ found Senior p
+                        | inr e4 ↦
+                            elim (one-more n 5 UserConflict k _ e4) [
+                              | inl p ↦ found UserConflict p
+                              | inr e5 ↦
+                                  elim (one-more n 6 RoleConflict k _ e5) [
+                                    | inl p ↦ found RoleConflict p
+                                    | inr e6 ↦
+                                        elim (one-more n 7 PermissionConflict k _ e6) [
+                                          | inl p ↦ found PermissionConflict p
+                                          | inr e7 ↦
+                                              elim (one-more n 8 TaskConflict k _ e7) [
+                                                | inl p ↦ found TaskConflict p
+                                                | inr e8 ↦
+                                                    elim (one-more n 9 AtOdds k _ e8) [
+                                                      | inl p ↦ found AtOdds p
+                                                      | inr e9 ↦
+                                                          elim (one-more n 10 OpenCase k _ e9) [
+                                                            | inl p ↦ found OpenCase p
+                                                            | inr e10 ↦
+                                                                elim (one-more n 11 Taken k _ e10) [
+                                                                  | inl p ↦ found Taken p
+                                                                  | inr e11 ↦
+                                                                      elim (one-more n 12 Finished k _ e11) [
+                                                                        | inl p ↦ found Finished p
+                                                                        | inr e12 ↦
+                                                                            let p : _≡_ {A = Option Kind} None (Some k) = e12 in let z : _≡_ {A = ℕ} 0 1 = cc in absurd (omega arith)
+                                                                      ]
+                                                                ]
+                                                          ]
+                                                    ]
+                                              ]
+                                        ]
+                                  ]
+                            ]
+                      ]
+                ]
+          ]
+    ]
 
 -- the entries as digits
 module _ (f : Fact) (k : Kind) where
@@ -151,10 +191,11 @@ digits-one f g k b c b′ c′ e =
     let C = size (entries k .2) in
     let low : f .c ≡ g .c = sym (digits-mod (f .a * B + f .b) c) ∙ ap (λ (x : ℕ). x % C) e ∙ digits-mod (g .a * B + g .b) c′ in
     let top : f .a * B + f .b ≡ g .a * B + g .b =
-        sym (digits-div (f .a * B + f .b) c) ∙ ap (λ (x : ℕ). x / C) e ∙ digits-div (g .a * B + g .b) c′ in
-    (sym (digits-div (f .a) b) ∙ ap (λ (x : ℕ). x / B) top ∙ digits-div (g .a) b′,
-     sym (digits-mod (f .a) b) ∙ ap (λ (x : ℕ). x % B) top ∙ digits-mod (g .a) b′,
-     low)
+    sym (digits-div (f .a * B + f .b) c) ∙ ap (λ (x : ℕ). x / C) e ∙ digits-div (g .a * B + g .b) c′ in (
+      sym (digits-div (f .a) b) ∙ ap (λ (x : ℕ). x / B) top ∙ digits-div (g .a) b′,
+      sym (digits-mod (f .a) b) ∙ ap (λ (x : ℕ). x % B) top ∙ digits-mod (g .a) b′,
+      low,
+    )
 
 pub number-at : (f : Fact) (k : Kind) → kind-of (f .kind) ≡ Some k → bit-number f ≡ number-in k f
 unfolding bit-number
@@ -185,26 +226,61 @@ number-apart f g p q e =
     let r = ranged f p in
     let s = ranged g q in
     elim (kinds-apart (r .kind) (s .kind)) [
-      inl k ↦ same-digits f g r s (same-kind (r .kind) (s .kind) k) e
-    | inr o ↦ elim o [
-        inl h ↦ absurd (omega (arith, within f r .1, within g s .0, h))
-      | inr h ↦ absurd (omega (arith, within g s .1, within f r .0, h)) ] ]
+      | inl k ↦ same-digits f g r s (same-kind (r .kind) (s .kind) k) e
+      | inr o ↦ elim o [
+        | inl h ↦ absurd (omega (arith, within f r .1, within g s .0, h))
+        | inr h ↦ absurd (omega (arith, within g s .1, within f r .0, h))
+      ]
+    ]
 
 -- the kind among whose numbers i lies
 kind-at : (i : ℕ) → i < 177184 → (k : Kind) × (base k ≤ i) × (i < end k)
 kind-at i h =
-    elim (cases-lt i 8192) [ inl h1 ↦ (UserRole, omega arith, h1) | inr g1 ↦
-    elim (cases-lt i 12288) [ inl h2 ↦ (PermissionRole, omega arith, h2) | inr g2 ↦
-    elim (cases-lt i 14336) [ inl h3 ↦ (TaskRole, omega arith, h3) | inr g3 ↦
-    elim (cases-lt i 18432) [ inl h4 ↦ (Senior, omega arith, h4) | inr g4 ↦
-    elim (cases-lt i 34816) [ inl h5 ↦ (UserConflict, omega arith, h5) | inr g5 ↦
-    elim (cases-lt i 38912) [ inl h6 ↦ (RoleConflict, omega arith, h6) | inr g6 ↦
-    elim (cases-lt i 43008) [ inl h7 ↦ (PermissionConflict, omega arith, h7) | inr g7 ↦
-    elim (cases-lt i 44032) [ inl h8 ↦ (TaskConflict, omega arith, h8) | inr g8 ↦
-    elim (cases-lt i 45056) [ inl h9 ↦ (AtOdds, omega arith, h9) | inr g9 ↦
-    elim (cases-lt i 45088) [ inl h10 ↦ (OpenCase, omega arith, h10) | inr g10 ↦
-    elim (cases-lt i 176160) [ inl h11 ↦ (Taken, omega arith, h11) | inr g11 ↦
-    (Finished, omega arith, h) ] ] ] ] ] ] ] ] ] ] ]
+    elim (cases-lt i 8192) [
+      | inl h1 ↦ (UserRole, omega arith, h1)
+      | inr g1 ↦
+          elim (cases-lt i 12288) [
+            | inl h2 ↦ (PermissionRole, omega arith, h2)
+            | inr g2 ↦
+                elim (cases-lt i 14336) [
+                  | inl h3 ↦ (TaskRole, omega arith, h3)
+                  | inr g3 ↦
+                      elim (cases-lt i 18432) [
+                        | inl h4 ↦ (Senior, omega arith, h4)
+                        | inr g4 ↦
+                            elim (cases-lt i 34816) [
+                              | inl h5 ↦ (UserConflict, omega arith, h5)
+                              | inr g5 ↦
+                                  elim (cases-lt i 38912) [
+                                    | inl h6 ↦ (RoleConflict, omega arith, h6)
+                                    | inr g6 ↦
+                                        elim (cases-lt i 43008) [
+                                          | inl h7 ↦ (PermissionConflict, omega arith, h7)
+                                          | inr g7 ↦
+                                              elim (cases-lt i 44032) [
+                                                | inl h8 ↦ (TaskConflict, omega arith, h8)
+                                                | inr g8 ↦
+                                                    elim (cases-lt i 45056) [
+                                                      | inl h9 ↦ (AtOdds, omega arith, h9)
+                                                      | inr g9 ↦
+                                                          elim (cases-lt i 45088) [
+                                                            | inl h10 ↦ (OpenCase, omega arith, h10)
+                                                            | inr g10 ↦
+                                                                elim (cases-lt i 176160) [
+                                                                  | inl h11 ↦ (Taken, omega arith, h11)
+                                                                  | inr g11 ↦
+                                                                      (Finished, omega arith, h)
+                                                                ]
+                                                          ]
+                                                    ]
+                                              ]
+                                        ]
+                                  ]
+                            ]
+                      ]
+                ]
+          ]
+    ]
 
 -- the fact with the number i of a kind
 fact-in : Kind → ℕ → Fact
@@ -226,10 +302,12 @@ number-onto i h =
     let second : v / C % B < B = mod-below (v / C) B (size-pos (entries k .1)) in
     let first : v / C / B < A = div-below (v / C) B A (size-pos (entries k .1)) (div-below v C (A * B) (size-pos (entries k .2)) small) in
     let ranges : in-ranges k f ≡ true =
-        and-from _ _ (lt-ltb (v / C / B) A first) (and-from _ _ (lt-ltb (v / C % B) B second) (lt-ltb (v % C) C third)) in
-    let value : digits f k ≡ v = ap (λ (x : ℕ). x * C + v % C) (div-add-mod' (v / C) B) ∙ div-add-mod' v C in
-    (f, fact-of-kind f k (kind-of-number k) ∙ ranges,
-     number-at f k (kind-of-number k) ∙ ap (λ (x : ℕ). base k + x) value ∙ (omega (arith, w .1)))
+    and-from _ _ (lt-ltb (v / C / B) A first) (and-from _ _ (lt-ltb (v / C % B) B second) (lt-ltb (v % C) C third)) in
+    let value : digits f k ≡ v = ap (λ (x : ℕ). x * C + v % C) (div-add-mod' (v / C) B) ∙ div-add-mod' v C in (
+      f,
+      fact-of-kind f k (kind-of-number k) ∙ ranges,
+      number-at f k (kind-of-number k) ∙ ap (λ (x : ℕ). base k + x) value ∙ (omega (arith, w .1)),
+    )
 
 pub numbering : Numbering 177184 bit-number
 numbering = record { below = number-below; apart = number-apart; onto = number-onto }

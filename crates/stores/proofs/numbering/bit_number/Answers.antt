@@ -15,7 +15,7 @@ returns-in-Break-kind c =
     let f = c .args .fact in
     record {
       value = c .from-residual .ensures
-        ∙ sym (cond-false (is-fact f) (Some (bit-number f)) None (none-told f (c .in-Break-kind .ensures tt)));
+          ∙ sym (cond-false (is-fact f) (Some (bit-number f)) None (none-told f (c .in-Break-kind .ensures tt)));
       onto = numbering;
     }
 
@@ -25,14 +25,14 @@ returns c =
     let k = c .in-Continue-kind .kind in
     let w = some-told f k (c .in-Continue-kind .ensures tt) in
     let B : c .size .result ≡ size (entries k .1) =
-        c .size .ensures ∙ ap (λ (t : Entry × Entry × Entry). size (t .1)) (c .entries-second .ensures) in
+    c .size .ensures ∙ ap (λ (t : Entry × Entry × Entry). size (t .1)) (c .entries-second .ensures) in
     let C : c .size-2 .result ≡ size (entries k .2) =
-        c .size-2 .ensures ∙ ap (λ (t : Entry × Entry × Entry). size (t .2)) (c .entries-second .ensures) in
+    c .size-2 .ensures ∙ ap (λ (t : Entry × Entry × Entry). size (t .2)) (c .entries-second .ensures) in
     let D : c .base .result ≡ base k = c .base .ensures in
     let row = (f .a * c .size .result + f .b) * c .size-2 .result in
     let digits : c .base .result + (row + f .c) ≡ number-in k f = cc in
     let e : c .base .result + row + f .c ≡ bit-number f =
-        add-assoc (c .base .result) row (f .c) ∙ digits ∙ sym (number-at f k (w .1)) in
+    add-assoc (c .base .result) row (f .c) ∙ digits ∙ sym (number-at f k (w .1)) in
     record {
       value = ap Some e ∙ sym (cond-true (is-fact f) (Some (bit-number f)) None (w .0));
       onto = numbering;

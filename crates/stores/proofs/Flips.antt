@@ -1,0 +1,91 @@
+use mathlib.Core.Path.{_≡_, refl, sym, ap, _∙_}
+use mathlib.Core.Bool.{Bool, true, false, not, cond, _&&_}
+use mathlib.Core.List.{List}
+use mathlib.Core.Logic.{_⊎_, inl, inr, _≢_}
+use Prim.Native.Nat.{ℕ, zero, suc, _+_, _*_, _/_, _%_, _^_, _<_, _≤_}
+use native.Mathlib.Omega.{arith}
+use lib.Bits.{bitXor}
+use lib.Dec.{eqb}
+use lib.ListN.{length, getD, set, drop, length-set}
+use lib.Seq.{getD-set-same, getD-set-other, drop-set-lt}
+use Rattle.std.proofs.shelf.Tests.{and-parts, both-ways, not-true, cases-eq, eq-eqb, ne-eqb, cond-true, cond-false}
+use Rattle.stores.specs.Bits.{bit-in, bit, SameFrom, Flipped}
+
+-- a test at each number below n, computed
+abbrev all-below : (ℕ → Bool) → ℕ → Bool
+all-below p zero = true
+all-below p (suc n) = p n && all-below p n
+
+below-at : (p : ℕ → Bool) (n : ℕ) → all-below p n ≡ true → (k : ℕ) → k < n → p k ≡ true
+below-at p zero e k h = absurd (omega arith)
+below-at p (suc n) e k h =
+    let w = and-parts (p n) (all-below p n) e in
+    elim (cases-eq k n) [ inl q ↦ ap p q ∙ w .0 | inr d ↦ below-at p n (w .1) k (omega arith) ]
+
+abbrev same : Bool → Bool → Bool
+same a b = cond a b (not b)
+
+same-eq : (a b : Bool) → same a b ≡ true → a ≡ b
+same-eq true true e = refl
+same-eq true false e = sym e
+same-eq false true e = e
+same-eq false false e = refl
+
+abbrev bit-now : ℕ → ℕ → Bool
+bit-now x j = eqb ((x / 2 ^ j) % 2) 1
+
+-- the byte with one bit the other way round, as the code computes it
+abbrev turned : ℕ → ℕ → ℕ
+turned x j = bitXor x ((1 * 2 ^ j) % 256)
+
+abbrev turn-test : ℕ → ℕ → ℕ → Bool
+turn-test x j k = same (bit-now (turned x j) k) (cond (eqb k j) (not (bit-now x j)) (bit-now x k))
+
+turn-table : all-below (λ x. all-below (λ j. all-below (turn-test x j) 8) 8) 256 ≡ true
+turn-table = refl
+
+pub turned-bit : (x j k : ℕ) → x < 256 → j < 8 → k < 8
+    → bit-in (turned x j) k ≡ cond (eqb k j) (not (bit-in x j)) (bit-in x k)
+unfolding bit-in
+turned-bit x j k hx hj hk =
+    let at-x = below-at (λ y. all-below (λ i. all-below (turn-test y i) 8) 8) 256 turn-table x hx in
+    let at-j = below-at (λ i. all-below (turn-test x i) 8) 8 at-x j hj in
+    same-eq _ _ (below-at (turn-test x j) 8 at-j k hk)
+
+-- no bit of the byte 0 is set
+none-table : all-below (λ j. not (bit-now 0 j)) 8 ≡ true
+none-table = refl
+
+pub none-set : (j : ℕ) → j < 8 → bit-in 0 j ≡ false
+unfolding bit-in
+none-set j h = not-true (bit-now 0 j) (below-at (λ i. not (bit-now 0 i)) 8 none-table j h)
+
+module _ (xs : List ℕ) (i v : ℕ) (h : i / 8 < length xs)
+    (w : (k : ℕ) → k < 8 → bit-in v k ≡ cond (eqb k (i % 8)) (not (bit xs i)) (bit-in (getD xs (i / 8) 0) k)) where
+  -- a bit of the byte that was written, and a bit of another
+  bit-near : (k : ℕ) → k / 8 ≡ i / 8 → bit (set xs (i / 8) v) k ≡ cond (eqb k i) (not (bit xs i)) (bit xs k)
+  bit-near k q =
+      let written : bit (set xs (i / 8) v) k ≡ cond (eqb (k % 8) (i % 8)) (not (bit xs i)) (bit-in (getD xs (i / 8) 0) (k % 8)) =
+      ap (λ (x : ℕ). bit-in (getD (set xs (i / 8) v) x 0) (k % 8)) q
+      ∙ ap (λ (x : ℕ). bit-in x (k % 8)) (getD-set-same xs (i / 8) v 0 h)
+      ∙ w (k % 8) (omega arith) in
+      elim (cases-eq k i) [
+        | inl e ↦ written ∙ cond-true _ _ _ (eq-eqb (k % 8) (i % 8) (ap (λ (x : ℕ). x % 8) e))
+            ∙ sym (cond-true (eqb k i) _ (bit xs k) (eq-eqb k i e))
+        | inr d ↦
+            let apart : k % 8 ≢ i % 8 = omega arith in
+            written ∙ cond-false _ _ _ (ne-eqb (k % 8) (i % 8) apart)
+            ∙ ap (λ (x : ℕ). bit-in (getD xs x 0) (k % 8)) (sym q)
+            ∙ sym (cond-false (eqb k i) (not (bit xs i)) _ (ne-eqb k i d))
+      ]
+
+  bit-far : (k : ℕ) → k / 8 ≢ i / 8 → bit (set xs (i / 8) v) k ≡ cond (eqb k i) (not (bit xs i)) (bit xs k)
+  bit-far k d =
+      ap (λ (x : ℕ). bit-in x (k % 8)) (getD-set-other xs (i / 8) (k / 8) v 0 d)
+      ∙ sym (cond-false (eqb k i) (not (bit xs i)) _ (ne-eqb k i (λ e. d (ap (λ (x : ℕ). x / 8) e))))
+
+  pub flip-set : i < 177184 → Flipped i xs (set xs (i / 8) v)
+  flip-set low = record {
+    bits = λ k. elim (cases-eq (k / 8) (i / 8)) [ inl q ↦ bit-near k q | inr d ↦ bit-far k d ];
+    rest = (length-set xs (i / 8) v, drop-set-lt 22148 xs (i / 8) v (omega arith));
+  }
