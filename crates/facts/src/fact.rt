@@ -2,7 +2,8 @@
 // Four numbers that are no fact can be written down too: they are what a store refuses.
 ghost use mathlib.Core.Path.{_≡_};
 ghost use mathlib.Core.Bool.{cond};
-ghost use Rattle.std.specs.declared.option.Option.the-variants.{Some, None};
+ghost use Rattle.std.specs.Options.{isSome};
+ghost use Rattle.std.specs.declared.option.Option.the-variants.{None};
 ghost use Rattle.facts.specs.Facts.{size, number, kind-of, entries, fact, in-ranges, is-fact};
 
 // What can stand in an entry.
@@ -139,7 +140,8 @@ impl Fact {
 
     // The kind, where the four numbers are a fact.
     pub fn kind_of_fact(self) -> Option<Kind>
-        ensures { λ r. ⌜ r ≡ cond (is-fact self) (kind-of (self .kind)) None ⌝ }
+        ensures kind { λ r. ⌜ r ≡ cond (is-fact self) (kind-of (self .kind)) None ⌝ }
+        ensures told { λ r. ⌜ isSome r ≡ is-fact self ⌝ }
     {
         let kind = Kind::of_number(self.kind)?;
         if self.fits(kind) { Some(kind) } else { None }

@@ -10,46 +10,46 @@ use crate::refusal::Refusal;
 use crate::store::Store;
 
 // After a put the fact is there exactly when the put was accepted.
-pub fn put_then_has<S: Store>(store: &mut S, fact: Fact) -> (Result<(), Refusal>, bool)
+pub fn put_then_has<S: Store>(store: &mut S, added: Fact) -> (Result<(), Refusal>, bool)
     ensures kept { λ _. ⌜ (sound (now (store .entry)) → sound (now (store .exit))) ⌝ }
     ensures told { λ r. ⌜ (sound (now (store .entry)) → r .1 ≡ isOk (r .0)) ⌝ }
     ensures does { λ r. ⌜ (sound (now (store .entry))
-        → Put fact (facts (now (store .entry))) (room (now (store .entry))) (r .0) (facts (now (store .exit))) (room (now (store .exit)))) ⌝ }
+        → Put added (facts (now (store .entry))) (room (now (store .entry))) (r .0) (facts (now (store .exit))) (room (now (store .exit)))) ⌝ }
 {
-    let answer = store.put(fact);
-    let there = store.has(fact);
+    let answer = store.put(added);
+    let there = store.has(added);
     (answer, there)
 }
 
 // After a take the fact is not there.
-pub fn take_then_has<S: Store>(store: &mut S, fact: Fact) -> bool
+pub fn take_then_has<S: Store>(store: &mut S, removed: Fact) -> bool
     ensures kept { λ _. ⌜ (sound (now (store .entry)) → sound (now (store .exit))) ⌝ }
     ensures told { λ r. ⌜ (sound (now (store .entry)) → r ≡ false) ⌝ }
     ensures does { λ _. ⌜ (sound (now (store .entry))
-        → Take fact (facts (now (store .entry))) (room (now (store .entry))) (facts (now (store .exit))) (room (now (store .exit)))) ⌝ }
+        → Take removed (facts (now (store .entry))) (room (now (store .entry))) (facts (now (store .exit))) (room (now (store .exit)))) ⌝ }
 {
-    store.take(fact);
-    store.has(fact)
+    store.take(removed);
+    store.has(removed)
 }
 
 // Two puts of a fact answer and do what one does.
-pub fn put_twice<S: Store>(store: &mut S, fact: Fact) -> Result<(), Refusal>
+pub fn put_twice<S: Store>(store: &mut S, repeated: Fact) -> Result<(), Refusal>
     ensures kept { λ _. ⌜ (sound (now (store .entry)) → sound (now (store .exit))) ⌝ }
     ensures does { λ r. ⌜ (sound (now (store .entry))
-        → Put fact (facts (now (store .entry))) (room (now (store .entry))) r (facts (now (store .exit))) (room (now (store .exit)))) ⌝ }
+        → Put repeated (facts (now (store .entry))) (room (now (store .entry))) r (facts (now (store .exit))) (room (now (store .exit)))) ⌝ }
 {
-    let _ = store.put(fact);
-    store.put(fact)
+    let _ = store.put(repeated);
+    store.put(repeated)
 }
 
 // A put and a take of a fact do what the take alone does.
-pub fn put_then_take<S: Store>(store: &mut S, fact: Fact)
+pub fn put_then_take<S: Store>(store: &mut S, passing: Fact)
     ensures kept { λ _. ⌜ (sound (now (store .entry)) → sound (now (store .exit))) ⌝ }
     ensures does { λ _. ⌜ (sound (now (store .entry))
-        → Take fact (facts (now (store .entry))) (room (now (store .entry))) (facts (now (store .exit))) (room (now (store .exit)))) ⌝ }
+        → Take passing (facts (now (store .entry))) (room (now (store .entry))) (facts (now (store .exit))) (room (now (store .exit)))) ⌝ }
 {
-    let _ = store.put(fact);
-    store.take(fact);
+    let _ = store.put(passing);
+    store.take(passing);
 }
 
 // The spare never exceeds the most.

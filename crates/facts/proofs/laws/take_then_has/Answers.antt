@@ -8,7 +8,7 @@ pub returns : need.returns
 returns g c = record {
   kept = λ h. c .has .ensures .kept (c .take .ensures .kept h);
   told = λ h. c .has .ensures .value (c .take .ensures .kept h)
-      ∙ ap (λ (m : Facts). m (c .args .fact)) (take-left _ _ _ _ _ (c .take .ensures .does h))
-      ∙ with-here (g .S·Store .facts (c .args .store .now)) (c .args .fact) false;
+      ∙ ap (λ (m : Facts). m (c .args .removed)) (take-left _ _ _ _ _ (c .take .ensures .does h))
+      ∙ with-here (g .S·Store .facts (c .args .store .now)) (c .args .removed) false;
   does = λ h. take-stays _ _ _ _ _ _ _ (c .take .ensures .does h) (c .has .ensures .facts, c .has .ensures .room);
 }

@@ -15,7 +15,7 @@ returns-in-Break-kind c =
     let f = c .args .fact in
     record {
       value = c .from-residual .ensures
-          ∙ sym (cond-false (is-fact f) (Some (bit-number f)) None (none-told f (c .in-Break-kind .ensures tt)));
+          ∙ sym (cond-false (is-fact f) (Some (bit-number f)) None (none-told f (c .in-Break-kind .ensures tt .kind)));
       onto = numbering;
     }
 
@@ -23,7 +23,7 @@ pub returns : need.returns
 returns c =
     let f = c .args .fact in
     let k = c .in-Continue-kind .kind in
-    let w = some-told f k (c .in-Continue-kind .ensures tt) in
+    let w = some-told f k (c .in-Continue-kind .ensures tt .kind) in
     let B : c .size .result ≡ size (entries k .1) =
     c .size .ensures ∙ ap (λ (t : Entry × Entry × Entry). size (t .1)) (c .entries-second .ensures) in
     let C : c .size-2 .result ≡ size (entries k .2) =
