@@ -179,23 +179,7 @@ take-left f m n m′ n′ p =
       | inr h ↦ p .absent h .0 ∙ sym (with-stays m f false (not-in (m f) h))
     ]
 
--- the three puts and the one take after which a store is as it was
-pub put-there : (f : Fact) (m : Facts) (n : ℕ) → IsFact f → In m f → Put f m n (Ok tt) m n
-put-there f m n b h = record {
-  no-fact = λ d. absurd (d b);
-  there = λ _. (refl, (refl, refl));
-  full = λ _ d _. absurd (d h);
-  joins = λ _ d _. absurd (d h);
-}
-
-pub put-full : (f : Fact) (m : Facts) (n : ℕ) → IsFact f → Not (In m f) → n ≡ 0 → Put f m n (Err Full) m n
-put-full f m n b d z = record {
-  no-fact = λ e. absurd (e b);
-  there = λ h. absurd (d h);
-  full = λ _ _ _. (refl, (refl, refl));
-  joins = λ _ _ h. absurd (omega arith);
-}
-
+-- two puts after which a store is as it was
 pub put-no-fact : (f : Fact) (m : Facts) (n : ℕ) → Only m → Not (IsFact f) → Put f m n (Err NoFact) m n
 put-no-fact f m n o e = record {
   no-fact = λ _. (refl, (refl, refl));
@@ -204,5 +188,10 @@ put-no-fact f m n o e = record {
   joins = λ b _ _. absurd (e b);
 }
 
-pub take-absent : (f : Fact) (m : Facts) (n : ℕ) → Not (In m f) → Take f m n m n
-take-absent f m n d = record { absent = λ _. (refl, refl); leaves = λ h. absurd (d h) }
+pub put-there : (f : Fact) (m : Facts) (n : ℕ) → IsFact f → In m f → Put f m n (Ok tt) m n
+put-there f m n b h = record {
+  no-fact = λ d. absurd (d b);
+  there = λ _. (refl, (refl, refl));
+  full = λ _ d _. absurd (d h);
+  joins = λ _ d _. absurd (d h);
+}

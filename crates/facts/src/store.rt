@@ -28,6 +28,9 @@ pub trait Store {
     // The spare never exceeds the most.
     ghost bounded: { (s : Self) → room s ≤ limit };
 
+    // Where nothing is done, the outside stays.
+    ghost unmoved: { (s : Self) → outside s s };
+
     fn most_facts() -> usize
         ensures { λ r. ⌜ r ≡ limit ⌝ };
 

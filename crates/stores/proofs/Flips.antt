@@ -9,7 +9,9 @@ use lib.Dec.{eqb}
 use lib.ListN.{length, getD, set, drop, length-set}
 use lib.Seq.{getD-set-same, getD-set-other, drop-set-lt}
 use Rattle.std.proofs.shelf.Tests.{and-parts, both-ways, not-true, cases-eq, eq-eqb, ne-eqb, cond-true, cond-false}
-use Rattle.stores.specs.Bits.{bit-in, bit, SameFrom, Flipped}
+use denote.Ref.{RefT, now, at-last}
+use Rattle.stores.specs.Bits.{bit-in, bit, Flipped}
+use Rattle.stores.specs.Lent.{SameBeyond}
 
 -- a test at each number below n, computed
 abbrev all-below : (ℕ → Bool) → ℕ → Bool
@@ -84,8 +86,9 @@ module _ (xs : List ℕ) (i v : ℕ) (h : i / 8 < length xs)
       ap (λ (x : ℕ). bit-in x (k % 8)) (getD-set-other xs (i / 8) (k / 8) v 0 d)
       ∙ sym (cond-false (eqb k i) (not (bit xs i)) _ (ne-eqb k i (λ e. d (ap (λ (x : ℕ). x / 8) e))))
 
-  pub flip-set : i < 177184 → Flipped i xs (set xs (i / 8) v)
-  flip-set low = record {
-    bits = λ k. elim (cases-eq (k / 8) (i / 8)) [ inl q ↦ bit-near k q | inr d ↦ bit-far k d ];
-    rest = (length-set xs (i / 8) v, drop-set-lt 22148 xs (i / 8) v (omega arith));
-  }
+  pub flip-set : Flipped i xs (set xs (i / 8) v)
+  flip-set k = elim (cases-eq (k / 8) (i / 8)) [ inl q ↦ bit-near k q | inr d ↦ bit-far k d ]
+
+-- a write to one of the first 22,148 bytes
+pub byte-set : (s : RefT (List ℕ)) (k v : ℕ) → k < 22148 → SameBeyond 22148 s (at-last s (set (now s) k v))
+byte-set s k v h = record { named = refl; long = length-set (now s) k v; rest = drop-set-lt 22148 (now s) k v h }

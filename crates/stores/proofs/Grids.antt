@@ -6,6 +6,7 @@ use Prim.Native.Nat.{ℕ, _+_, _-_, _/_, _%_, _<_, _≤_}
 use native.Mathlib.Omega.{arith}
 use lib.Dec.{eqb, leb}
 use lib.ListN.{length, getD}
+use denote.Ref.{RefT, now}
 use Rattle.std.proofs.shelf.Tests.{and-from, and-left, and-right, both-ways, cases-bool, cases-eq, cond-true, cond-false}
 use Rattle.std.proofs.shelf.Tests.{eq-eqb, ne-eqb, le-leb, leb-true, leb-false, lt-leb, not-from-true, not-from-false}
 use Rattle.std.specs.Options.{isSome}
@@ -17,7 +18,8 @@ use Rattle.facts.specs.Facts.{Not, Facts, In, with, is-fact, same-fact}
 use Rattle.facts.specs.Stores.{IsFact, Empty, Decides, Put, Take}
 use Rattle.facts.proofs.Sets.{same-eq, same-refl, with-other, not-in}
 use Rattle.stores.specs.Numbers.{bit-number}
-use Rattle.stores.specs.Bits.{bit-in, bit, enough, grid-facts, grid-room, tally, Counted, SameFrom, GridKeeps, Flipped}
+use Rattle.stores.specs.Bits.{bit-in, bit, enough, grid-facts, grid-room, tally, Counted, GridKeeps, Flipped}
+use Rattle.stores.specs.Lent.{SameBeyond}
 use Rattle.stores.proofs.Onto.{number-below, number-apart, number-onto}
 use Rattle.stores.proofs.Flips.{none-set}
 use Rattle.stores.proofs.Tallies.{tally-more, tally-zero, tally-none, tally-within}
@@ -39,18 +41,19 @@ room-at xs n w = cond-true (enough xs) (177184 - n) 0 w
 count-at : (xs : List ℕ) (n : ℕ) → enough xs ≡ true → Counted xs n → n ≡ tally (bit xs) 177184
 count-at xs n w c = c ∙ cond-true (enough xs) (tally (bit xs) 177184) 0 w
 
-module _ (xs ys : List ℕ) (f : Fact) (w : enough xs ≡ true) (b : IsFact f) (p : Flipped (bit-number f) xs ys) where
-  still-wide : enough ys ≡ true
-  still-wide = ap (λ (n : ℕ). leb 22148 n) (p .rest .0) ∙ w
+pub wide-keeps : (s t : RefT (List ℕ)) → enough (now s) ≡ true → SameBeyond 22148 s t → GridKeeps s t
+wide-keeps s t w k = (k, λ h. absurd (omega (arith, leb-true 22148 (length (now s)) w)))
 
-  pub flip-keeps : GridKeeps xs ys
-  flip-keeps = (p .rest, λ h. absurd (let k = leb-true 22148 (length xs) w in omega arith))
+module _ (xs ys : List ℕ) (f : Fact) (w : enough xs ≡ true) (long : length ys ≡ length xs) (b : IsFact f)
+    (p : Flipped (bit-number f) xs ys) where
+  still-wide : enough ys ≡ true
+  still-wide = ap (λ (n : ℕ). leb 22148 n) long ∙ w
 
   bit-here : bit ys (bit-number f) ≡ not (bit xs (bit-number f))
-  bit-here = p .bits (bit-number f) ∙ cond-true _ _ _ (eq-eqb (bit-number f) (bit-number f) refl)
+  bit-here = p (bit-number f) ∙ cond-true _ _ _ (eq-eqb (bit-number f) (bit-number f) refl)
 
   bit-other : (k : ℕ) → k ≢ bit-number f → bit ys k ≡ bit xs k
-  bit-other k d = p .bits k ∙ cond-false _ _ _ (ne-eqb k (bit-number f) d)
+  bit-other k d = p k ∙ cond-false _ _ _ (ne-eqb k (bit-number f) d)
 
   -- the fact joins the set or leaves it, and every other stays
   pub flip-facts : grid-facts ys ≡ with (grid-facts xs) f (not (bit xs (bit-number f)))
@@ -125,15 +128,12 @@ number-told f i e = elim (cases-bool (is-fact f)) [
 
 -- a bit that the code flipped, by the number that it was told
 module _ (xs ys : List ℕ) (f : Fact) (i n m : ℕ) (e : Some i ≡ cond (is-fact f) (Some (bit-number f)) None)
-    (w : enough xs ≡ true) (p : Flipped i xs ys) (same : m ≡ n) where
+    (w : enough xs ≡ true) (long : length ys ≡ length xs) (p : Flipped i xs ys) (same : m ≡ n) where
   at-number : Flipped (bit-number f) xs ys
   at-number = subst (λ (k : ℕ). Flipped k xs ys) (sym (number-told f i e .1)) p
 
   bit-told : (b : Bool) → b ≡ bit xs i → bit xs (bit-number f) ≡ b
   bit-told b h = ap (bit xs) (number-told f i e .1) ∙ sym h
-
-  pub flipped-keeps : GridKeeps xs ys
-  flipped-keeps = flip-keeps xs ys f w (number-told f i e .0) at-number
 
   pub flipped-in : false ≡ bit xs i → n < 177184 → Counted xs n
       → Counted ys (m + 1) × Put f (grid-facts xs) (grid-room xs n) (Ok tt) (grid-facts ys) (grid-room ys (m + 1))
@@ -141,7 +141,7 @@ module _ (xs ys : List ℕ) (f : Fact) (i n m : ℕ) (e : Some i ≡ cond (is-fa
       let b = number-told f i e .0 in
       let out = bit-told false clear in
       subst (λ (k : ℕ). Counted ys (k + 1) × Put f (grid-facts xs) (grid-room xs n) (Ok tt) (grid-facts ys) (grid-room ys (k + 1)))
-      (sym same) (put-counted xs ys f w b at-number out n c, put-does xs ys f w b at-number out n h)
+      (sym same) (put-counted xs ys f w long b at-number out n c, put-does xs ys f w long b at-number out n h)
 
   pub flipped-out : true ≡ bit xs i → Counted xs n
       → Counted ys (m - 1) × Take f (grid-facts xs) (grid-room xs n) (grid-facts ys) (grid-room ys (m - 1))
@@ -149,7 +149,7 @@ module _ (xs ys : List ℕ) (f : Fact) (i n m : ℕ) (e : Some i ≡ cond (is-fa
       let b = number-told f i e .0 in
       let there = bit-told true set in
       subst (λ (k : ℕ). Counted ys (k - 1) × Take f (grid-facts xs) (grid-room xs n) (grid-facts ys) (grid-room ys (k - 1)))
-      (sym same) (take-counted xs ys f w b at-number there n c, take-does xs ys f w b at-number there n c)
+      (sym same) (take-counted xs ys f w long b at-number there n c, take-does xs ys f w long b at-number there n c)
 
 -- a grid without bits that are set is empty, and a grid is empty where its count is 0
 pub blank-empty : (xs : List ℕ) → ((i : ℕ) → enough xs ≡ true → i < 177184 → bit xs i ≡ false) → Empty (grid-facts xs)
@@ -187,6 +187,3 @@ blank-counted xs z = elim (cases-bool (enough xs)) [
   | inl w ↦ sym (cond-true (enough xs) (tally (bit xs) 177184) 0 w ∙ tally-zero (bit xs) 177184 (λ i h. z i w h))
   | inr n ↦ sym (cond-false (enough xs) (tally (bit xs) 177184) 0 n)
 ]
-
-pub keeps-refl : (xs : List ℕ) → GridKeeps xs xs
-keeps-refl xs = ((refl, refl), λ _. refl)

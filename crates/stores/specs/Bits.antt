@@ -3,9 +3,11 @@ use mathlib.Core.List.{List}
 use mathlib.Core.Bool.{Bool, true, false, not, cond, _&&_}
 use Prim.Native.Nat.{ℕ, zero, suc, _+_, _-_, _/_, _%_, _^_, _<_, _≤_}
 use lib.Dec.{eqb, leb}
-use lib.ListN.{length, getD, drop}
+use lib.ListN.{length, getD}
+use denote.Ref.{RefT, now}
 use Rattle.facts.specs.declared.fact.Fact.{Fact}
 use Rattle.facts.specs.Facts.{Facts, is-fact}
+use Rattle.stores.specs.Lent.{SameBeyond}
 use Rattle.stores.specs.Numbers.{bit-number}
 
 -- whether the bit j of a byte is set
@@ -37,15 +39,10 @@ tally p (suc n) = tally p n + cond (p n) 1 0
 abbrev pub Counted : List ℕ → ℕ → Type 0
 Counted xs n = n ≡ cond (enough xs) (tally (bit xs) 177184) 0
 
--- two lists have one length and are the same from the place n on
-abbrev pub SameFrom : {X : Type 0} → ℕ → List X → List X → Type 0
-SameFrom n xs ys = (length ys ≡ length xs) × (drop n ys ≡ drop n xs)
-
 -- only the first 22,148 bytes may have changed, and none where there are fewer
-abbrev pub GridKeeps : List ℕ → List ℕ → Type 0
-GridKeeps xs ys = SameFrom 22148 xs ys × (length xs < 22148 → ys ≡ xs)
+abbrev pub GridKeeps : RefT (List ℕ) → RefT (List ℕ) → Type 0
+GridKeeps s t = SameBeyond 22148 s t × (length (now s) < 22148 → now t ≡ now s)
 
--- the bit i is the other way round, and nothing else has changed
-pub record Flipped (i : ℕ) (xs ys : List ℕ) : Type 0 where
-  pub bits : (k : ℕ) → bit ys k ≡ cond (eqb k i) (not (bit xs i)) (bit xs k)
-  pub rest : SameFrom 22148 xs ys
+-- the bit i is the other way round, and every other bit as it was
+abbrev pub Flipped : ℕ → List ℕ → List ℕ → Type 0
+Flipped i xs ys = (k : ℕ) → bit ys k ≡ cond (eqb k i) (not (bit xs i)) (bit xs k)

@@ -5,11 +5,12 @@ ghost use mathlib.Core.Bool.{true, false, not, cond};
 ghost use Prim.Native.Nat.{ℕ, _/_, _<_, _≤_};
 ghost use lib.Dec.{eqb};
 ghost use lib.ListN.{length, getD};
-ghost use denote.Ref.{now, name};
+ghost use denote.Ref.{now};
 ghost use Rattle.facts.specs.Facts.{Facts};
 ghost use Rattle.facts.specs.Stores.{Empty};
-ghost use Rattle.stores.specs.Bits.{bit-in, bit, enough, grid-facts, grid-room, Counted, Flipped, SameFrom, GridKeeps};
-ghost use Rattle.stores.specs.Laws.{grid-only, grid-bounded};
+ghost use Rattle.stores.specs.Bits.{bit-in, bit, enough, grid-facts, grid-room, Counted, Flipped, GridKeeps};
+ghost use Rattle.stores.specs.Lent.{SameBeyond};
+ghost use Rattle.stores.specs.GridLaws.{grid-only, grid-bounded, grid-same};
 use crate::numbering::bit_number;
 use facts::fact::Fact;
 use facts::refusal::Refusal;
@@ -42,7 +43,7 @@ fn flipped(byte: u8, place: usize) -> u8
 fn clear(bytes: &mut [u8])
     requires { ⌜ 22148 ≤ length (now bytes) ⌝ }
     ensures zero { λ _. ⌜ ((k : ℕ) → k < 22148 → getD (now (bytes .exit)) k 0 ≡ 0) ⌝ }
-    ensures rest { λ _. ⌜ SameFrom 22148 (now (bytes .entry)) (now (bytes .exit)) ⌝ }
+    ensures rest { λ _. ⌜ SameBeyond 22148 (bytes .entry) (bytes .exit) ⌝ }
 {
     for i in 0..BYTES {
         bytes[i] = 0;
@@ -55,8 +56,7 @@ impl<'a> Grid<'a> {
         ensures sound { λ r. ⌜ Counted (now (r .bytes)) (r .count) ⌝ }
         ensures empty { λ r. ⌜ Empty (grid-facts (now (r .bytes))) ⌝ }
         ensures room { λ r. ⌜ grid-room (now (r .bytes)) (r .count) ≡ cond (enough (now (bytes .entry))) 177184 0 ⌝ }
-        ensures name { λ r. ⌜ name (r .bytes) ≡ name (bytes .entry) ⌝ }
-        ensures outside { λ r. ⌜ GridKeeps (now (bytes .entry)) (now (r .bytes)) ⌝ }
+        ensures outside { λ r. ⌜ GridKeeps (bytes .entry) (r .bytes) ⌝ }
     {
         if bytes.len() >= BYTES {
             clear(bytes);
@@ -81,7 +81,7 @@ impl<'a> Grid<'a> {
         requires { ⌜ number / 8 < length (now (now self .bytes)) ⌝ ∗ ⌜ number < 177184 ⌝ }
         ensures bits { λ _. ⌜ Flipped number (now (now (self .entry) .bytes)) (now (now (self .exit) .bytes)) ⌝ }
         ensures count { λ _. ⌜ now (self .exit) .count ≡ now (self .entry) .count ⌝ }
-        ensures name { λ _. ⌜ name (now (self .exit) .bytes) ≡ name (now (self .entry) .bytes) ⌝ }
+        ensures outside { λ _. ⌜ SameBeyond 22148 (now (self .entry) .bytes) (now (self .exit) .bytes) ⌝ }
     {
         let byte = self.bytes[number / 8];
         self.bytes[number / 8] = flipped(byte, number % 8);
@@ -99,11 +99,13 @@ pub impl<'a> Store for Grid<'a> as GridStore {
 
     ghost sound = { λ g. Counted (now (g .bytes)) (g .count) };
 
-    ghost outside = { λ g h. (name (h .bytes) ≡ name (g .bytes)) × GridKeeps (now (g .bytes)) (now (h .bytes)) };
+    ghost outside = { λ g h. GridKeeps (g .bytes) (h .bytes) };
 
     ghost only = { λ g _. grid-only (now (g .bytes)) };
 
     ghost bounded = { λ g. grid-bounded (now (g .bytes)) (g .count) };
+
+    ghost unmoved = { λ g. grid-same (g .bytes) };
 
     fn most_facts() -> usize
         ensures { λ r. ⌜ r ≡ 177184 ⌝ }

@@ -1,4 +1,4 @@
-use mathlib.Core.Path.{_∙_}
+use mathlib.Core.Path.{refl, _∙_}
 use mathlib.Core.Logic.{_≢_}
 use Prim.Native.Nat.{_<_}
 use native.Mathlib.Omega.{arith}
@@ -18,5 +18,5 @@ loop-i-again c = (
 pub returns : need.returns
 returns c = record {
   zero = λ k h. c .loop-i .inv .0 k (omega arith);
-  rest = (c .loop-i .kept .bytes, c .loop-i .inv .1);
+  rest = record { named = refl; long = c .loop-i .kept .bytes; rest = c .loop-i .inv .1 };
 }

@@ -1,13 +1,13 @@
-use mathlib.Core.Path.{_≡_, refl, sym, ap, subst, _∙_}
+use mathlib.Core.Path.{_≡_, refl, ap, _∙_}
 use mathlib.Core.Bool.{Bool, true, false, cond}
 use mathlib.Core.List.{List}
 use Prim.Native.Nat.{ℕ, _<_}
 use native.Mathlib.Omega.{arith}
 use lib.Dec.{leb}
-use lib.ListN.{length}
+use lib.ListN.{length, drop}
 use Rattle.std.proofs.shelf.Tests.{lt-leb, both-ways}
-use Rattle.stores.specs.Bits.{bit, enough, GridKeeps}
-use Rattle.stores.proofs.Grids.{blank-empty, blank-counted, clear-bit, keeps-refl}
+use Rattle.stores.specs.Bits.{bit, enough}
+use Rattle.stores.proofs.Grids.{blank-empty, blank-counted, clear-bit}
 use Rattle.stores.proofs.grid.Grid.new.Needs as need
 use Rattle.stores.proofs.grid.Grid.new.Needs.{then-bytes-ge-BYTES, else-bytes-ge-BYTES}
 
@@ -21,16 +21,22 @@ returns c =
       | else-bytes-ge-BYTES w ↦ λ i e _.
           absurd (both-ways (enough ys) (lt-leb 22148 (length ys) (omega (arith, c .if-bytes-ge-BYTES .kept .bytes, w .if-bytes-ge-BYTES .left))) e)
     ] in
-    let keeps : GridKeeps xs ys =
-    elim (c .if-bytes-ge-BYTES .came) [
-      | then-bytes-ge-BYTES w ↦ subst (GridKeeps xs) (sym (w .bytes-is))
-          (w .clear .ensures .rest, λ h. absurd (omega (arith, w .if-bytes-ge-BYTES .taken)))
-      | else-bytes-ge-BYTES w ↦ subst (GridKeeps xs) (sym (w .bytes-is)) (keeps-refl xs)
-    ] in
     record {
       sound = blank-counted ys blank;
       empty = blank-empty ys blank;
       room = ap (λ (n : ℕ). cond (leb 22148 n) 177184 0) (c .if-bytes-ge-BYTES .kept .bytes);
-      name = refl;
-      outside = keeps;
+      outside = (
+        record {
+          named = refl;
+          long = c .if-bytes-ge-BYTES .kept .bytes;
+          rest = elim (c .if-bytes-ge-BYTES .came) [
+            | then-bytes-ge-BYTES w ↦ ap (drop 22148) (w .bytes-is) ∙ w .clear .ensures .rest .rest
+            | else-bytes-ge-BYTES w ↦ ap (drop 22148) (w .bytes-is)
+          ];
+        },
+        elim (c .if-bytes-ge-BYTES .came) [
+          | then-bytes-ge-BYTES w ↦ λ h. absurd (omega (arith, w .if-bytes-ge-BYTES .taken))
+          | else-bytes-ge-BYTES w ↦ λ _. w .bytes-is
+        ],
+      );
     }

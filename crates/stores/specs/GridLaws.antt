@@ -1,17 +1,22 @@
+-- The laws that every store owes, of a grid: lemmas, which only the proofs rest on.
 use mathlib.Core.Path.{_≡_, refl}
 use mathlib.Core.Bool.{Bool, true, false, cond, _&&_}
 use mathlib.Core.List.{List}
 use Prim.Native.Nat.{ℕ, _-_, _≤_}
 use native.Mathlib.Omega.{arith}
+use denote.Ref.{RefT}
 use Rattle.std.proofs.shelf.Tests.{and-parts, cond-both}
 use Rattle.facts.specs.declared.fact.Fact.{Fact}
 use Rattle.facts.specs.Facts.{is-fact}
 use Rattle.facts.specs.Stores.{Only}
 use Rattle.stores.specs.Numbers.{bit-number}
-use Rattle.stores.specs.Bits.{bit, enough, grid-facts, grid-room}
+use Rattle.stores.specs.Bits.{bit, enough, grid-facts, grid-room, GridKeeps}
 
 pub grid-only : (xs : List ℕ) → Only (grid-facts xs)
 grid-only xs f e = and-parts (is-fact f) (enough xs && bit xs (bit-number f)) e .0
 
 pub grid-bounded : (xs : List ℕ) (n : ℕ) → grid-room xs n ≤ 177184
 grid-bounded xs n = cond-both (enough xs) (177184 - n) 0 (λ x. x ≤ 177184) (λ _. omega arith) (λ _. omega arith)
+
+pub grid-same : (s : RefT (List ℕ)) → GridKeeps s s
+grid-same s = (record { named = refl; long = refl; rest = refl }, λ _. refl)
