@@ -12,6 +12,7 @@ use crate::store::Store;
 // After a put the fact is there exactly when the put was accepted.
 pub fn put_then_has<S: Store>(store: &mut S, added: Fact) -> (Result<(), Refusal>, bool)
     ensures kept { λ _. ⌜ (sound (now (store .entry)) → sound (now (store .exit))) ⌝ }
+    ensures outside { λ _. ⌜ outside (now (store .entry)) (now (store .exit)) ⌝ }
     ensures told { λ r. ⌜ (sound (now (store .entry)) → r .1 ≡ isOk (r .0)) ⌝ }
     ensures does { λ r. ⌜ (sound (now (store .entry))
         → Put added (facts (now (store .entry))) (room (now (store .entry))) (r .0) (facts (now (store .exit))) (room (now (store .exit)))) ⌝ }
@@ -24,6 +25,7 @@ pub fn put_then_has<S: Store>(store: &mut S, added: Fact) -> (Result<(), Refusal
 // After a take the fact is not there.
 pub fn take_then_has<S: Store>(store: &mut S, removed: Fact) -> bool
     ensures kept { λ _. ⌜ (sound (now (store .entry)) → sound (now (store .exit))) ⌝ }
+    ensures outside { λ _. ⌜ outside (now (store .entry)) (now (store .exit)) ⌝ }
     ensures told { λ r. ⌜ (sound (now (store .entry)) → r ≡ false) ⌝ }
     ensures does { λ _. ⌜ (sound (now (store .entry))
         → Take removed (facts (now (store .entry))) (room (now (store .entry))) (facts (now (store .exit))) (room (now (store .exit)))) ⌝ }
@@ -35,6 +37,7 @@ pub fn take_then_has<S: Store>(store: &mut S, removed: Fact) -> bool
 // Two puts of a fact answer and do what one does.
 pub fn put_twice<S: Store>(store: &mut S, repeated: Fact) -> Result<(), Refusal>
     ensures kept { λ _. ⌜ (sound (now (store .entry)) → sound (now (store .exit))) ⌝ }
+    ensures outside { λ _. ⌜ outside (now (store .entry)) (now (store .exit)) ⌝ }
     ensures does { λ r. ⌜ (sound (now (store .entry))
         → Put repeated (facts (now (store .entry))) (room (now (store .entry))) r (facts (now (store .exit))) (room (now (store .exit)))) ⌝ }
 {
@@ -45,6 +48,7 @@ pub fn put_twice<S: Store>(store: &mut S, repeated: Fact) -> Result<(), Refusal>
 // A put and a take of a fact do what the take alone does.
 pub fn put_then_take<S: Store>(store: &mut S, passing: Fact)
     ensures kept { λ _. ⌜ (sound (now (store .entry)) → sound (now (store .exit))) ⌝ }
+    ensures outside { λ _. ⌜ outside (now (store .entry)) (now (store .exit)) ⌝ }
     ensures does { λ _. ⌜ (sound (now (store .entry))
         → Take passing (facts (now (store .entry))) (room (now (store .entry))) (facts (now (store .exit))) (room (now (store .exit)))) ⌝ }
 {

@@ -28,8 +28,10 @@ pub trait Store {
     // The spare never exceeds the most.
     ghost bounded: { (s : Self) → room s ≤ limit };
 
-    // Where nothing is done, the outside stays.
+    // So it is where nothing is done, and where one call follows another.
     ghost unmoved: { (s : Self) → outside s s };
+
+    ghost chained: { (s t u : Self) → outside s t → outside t u → outside s u };
 
     fn most_facts() -> usize
         ensures { λ r. ⌜ r ≡ limit ⌝ };

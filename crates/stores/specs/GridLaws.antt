@@ -1,5 +1,5 @@
 -- The laws that every store owes, of a grid: lemmas, which only the proofs rest on.
-use mathlib.Core.Path.{_≡_, refl}
+use mathlib.Core.Path.{_≡_, refl, _∙_}
 use mathlib.Core.Bool.{Bool, true, false, cond, _&&_}
 use mathlib.Core.List.{List}
 use Prim.Native.Nat.{ℕ, _-_, _≤_}
@@ -9,6 +9,7 @@ use Rattle.std.proofs.shelf.Tests.{and-parts, cond-both}
 use Rattle.facts.specs.declared.fact.Fact.{Fact}
 use Rattle.facts.specs.Facts.{is-fact}
 use Rattle.facts.specs.Stores.{Only}
+use Rattle.stores.specs.LentLaws.{beyond-same, beyond-on}
 use Rattle.stores.specs.Numbers.{bit-number}
 use Rattle.stores.specs.Bits.{bit, enough, grid-facts, grid-room, GridKeeps}
 
@@ -19,4 +20,7 @@ pub grid-bounded : (xs : List ℕ) (n : ℕ) → grid-room xs n ≤ 177184
 grid-bounded xs n = cond-both (enough xs) (177184 - n) 0 (λ x. x ≤ 177184) (λ _. omega arith) (λ _. omega arith)
 
 pub grid-same : (s : RefT (List ℕ)) → GridKeeps s s
-grid-same s = (record { named = refl; long = refl; rest = refl }, λ _. refl)
+grid-same s = (beyond-same 22148 s, λ _. refl)
+
+pub grid-on : (s t u : RefT (List ℕ)) → GridKeeps s t → GridKeeps t u → GridKeeps s u
+grid-on s t u p q = (beyond-on 22148 s t u (p .0) (q .0), λ h. q .1 (omega (arith, h, p .0 .long)) ∙ p .1 h)

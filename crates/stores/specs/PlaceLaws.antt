@@ -6,13 +6,11 @@ use mathlib.Core.Logic.{_⊎_, inl, inr}
 use Prim.Native.Nat.{ℕ, zero, suc, _-_, _<_, _≤_}
 use native.Mathlib.Omega.{arith}
 use lib.ListN.{length, getD}
-use denote.Ref.{RefT, name, now}
 use Rattle.std.proofs.shelf.Tests.{cases-eq, cases-bool, both-ways}
 use Rattle.facts.specs.declared.fact.Fact.{Fact}
 use Rattle.facts.specs.Facts.{In, same-fact}
 use Rattle.facts.specs.Stores.{IsFact, Only}
 use Rattle.facts.proofs.Sets.{same-eq, same-refl}
-use Rattle.stores.specs.Lent.{SameBeyond}
 use Rattle.stores.specs.Places.{nil, among, usable, Tidy}
 
 or-left : (a b : Bool) → a ≡ true → (a || b) ≡ true
@@ -56,6 +54,3 @@ only-facts xs n t f e = let w = among-where xs n f e in subst IsFact (w .2) (t .
 
 pub within-most : (xs : List Fact) (n : ℕ) → usable xs - n ≤ 4096
 within-most xs n = omega arith
-
-pub rest-same : (s : RefT (List Fact)) → SameBeyond 4096 s s
-rest-same s = record { named = refl; long = refl; rest = refl }

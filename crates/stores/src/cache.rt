@@ -92,6 +92,8 @@ pub impl<S: Store> Store for Cache<S> as CacheStore {
 
     ghost unmoved = { λ c. S·Store .unmoved (c .below) };
 
+    ghost chained = { λ c d e. S·Store .chained (c .below) (d .below) (e .below) };
+
     fn most_facts() -> usize {
         S::most_facts()
     }

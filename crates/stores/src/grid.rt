@@ -10,7 +10,7 @@ ghost use Rattle.facts.specs.Facts.{Facts};
 ghost use Rattle.facts.specs.Stores.{Empty};
 ghost use Rattle.stores.specs.Bits.{bit-in, bit, enough, grid-facts, grid-room, Counted, Flipped, GridKeeps};
 ghost use Rattle.stores.specs.Lent.{SameBeyond};
-ghost use Rattle.stores.specs.GridLaws.{grid-only, grid-bounded, grid-same};
+ghost use Rattle.stores.specs.GridLaws.{grid-only, grid-bounded, grid-same, grid-on};
 use crate::numbering::bit_number;
 use facts::fact::Fact;
 use facts::refusal::Refusal;
@@ -106,6 +106,8 @@ pub impl<'a> Store for Grid<'a> as GridStore {
     ghost bounded = { λ g. grid-bounded (now (g .bytes)) (g .count) };
 
     ghost unmoved = { λ g. grid-same (g .bytes) };
+
+    ghost chained = { λ g h i. grid-on (g .bytes) (h .bytes) (i .bytes) };
 
     fn most_facts() -> usize
         ensures { λ r. ⌜ r ≡ 177184 ⌝ }

@@ -7,7 +7,8 @@ ghost use Rattle.facts.specs.Facts.{Facts};
 ghost use Rattle.facts.specs.Stores.{Only, Empty, Decides, Put, Take};
 ghost use Rattle.stores.specs.Lent.{SameBeyond};
 ghost use Rattle.stores.specs.Places.{among, usable, Tidy, Found};
-ghost use Rattle.stores.specs.PlaceLaws.{only-facts, within-most, rest-same};
+ghost use Rattle.stores.specs.LentLaws.{beyond-same, beyond-on};
+ghost use Rattle.stores.specs.PlaceLaws.{only-facts, within-most};
 use facts::fact::Fact;
 use facts::fact::FactPartialEq;
 use facts::refusal::Refusal;
@@ -68,7 +69,9 @@ pub impl<'a> Store for List<'a> as ListStore {
 
     ghost bounded = { λ s. within-most (now (s .places)) (s .used) };
 
-    ghost unmoved = { λ s. rest-same (s .places) };
+    ghost unmoved = { λ s. beyond-same 4096 (s .places) };
+
+    ghost chained = { λ s t u. beyond-on 4096 (s .places) (t .places) (u .places) };
 
     fn most_facts() -> usize
         ensures { λ r. ⌜ r ≡ 4096 ⌝ }

@@ -1,5 +1,5 @@
 use mathlib.Core.Path.{refl, _∙_}
-use Rattle.stores.specs.PlaceLaws.{rest-same}
+use Rattle.stores.specs.LentLaws.{beyond-same}
 use Rattle.stores.proofs.Rows.{found-told}
 use Rattle.stores.proofs.list.ListStore.has.Needs as need
 
@@ -9,5 +9,5 @@ returns c = record {
   kept = λ h. h;
   facts = refl;
   room = refl;
-  outside = rest-same (c .args .self .now .places);
+  outside = beyond-same 4096 (c .args .self .now .places);
 }

@@ -4,7 +4,8 @@ use native.Mathlib.Omega.{arith}
 use Rattle.std.proofs.shelf.Tests.{both-ways}
 use Rattle.facts.specs.Facts.{Not, In, is-fact}
 use Rattle.stores.specs.Places.{among, usable, Tidy}
-use Rattle.stores.specs.PlaceLaws.{only-facts, rest-same}
+use Rattle.stores.specs.LentLaws.{beyond-same}
+use Rattle.stores.specs.PlaceLaws.{only-facts}
 use Rattle.facts.proofs.Sets.{put-no-fact, put-there}
 use Rattle.stores.proofs.Rows.{found-told, put-does, put-tidy, rest-set}
 use Rattle.stores.proofs.list.ListStore.put.Needs as need
@@ -17,7 +18,7 @@ returns-then-not-is-fact c =
       kept = λ h. h;
       does = λ h. put-no-fact (c .args .fact) (among xs n) (usable xs - n) (only-facts xs n h)
           (both-ways (is-fact (c .args .fact)) (sym (c .if-not-is-fact .ensures tt)));
-      outside = rest-same (c .args .self .now .places);
+      outside = beyond-same 4096 (c .args .self .now .places);
     }
 
 pub returns-then-is-some : need.returns-then-is-some
@@ -28,7 +29,7 @@ returns-then-is-some c =
       kept = λ h. h;
       does = λ h. put-there (c .args .fact) (among xs n) (usable xs - n) (sym (c .if-not-is-fact .ensures tt))
           (sym (found-told xs n (c .args .fact) _ h (c .find .ensures)) ∙ sym (c .if-is-some .ensures tt));
-      outside = rest-same (c .args .self .now .places);
+      outside = beyond-same 4096 (c .args .self .now .places);
     }
 
 pub returns : need.returns
