@@ -2,4 +2,6 @@
 #[cfg(test)]
 mod facts_at_edges;
 #[cfg(test)]
+mod memory_at_edges;
+#[cfg(test)]
 mod stores_at_edges;

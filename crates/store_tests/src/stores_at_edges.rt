@@ -18,14 +18,34 @@ use stores::grid::GridStore;
 use stores::list::List;
 use stores::list::ListStore;
 
-const NO_FACT: Fact = Fact { kind: 0, a: 0, b: 0, c: 0 };
+const NO_FACT: Fact = Fact {
+    kind: 0,
+    a: 0,
+    b: 0,
+    c: 0,
+};
 
-const ASSIGNED: Fact = Fact { kind: 1, a: 20, b: 2, c: 0 };
+const ASSIGNED: Fact = Fact {
+    kind: 1,
+    a: 20,
+    b: 2,
+    c: 0,
+};
 
-const OPEN: Fact = Fact { kind: 10, a: 0, b: 0, c: 0 };
+const OPEN: Fact = Fact {
+    kind: 10,
+    a: 0,
+    b: 0,
+    c: 0,
+};
 
 // The last fact of the numbering.
-const FINISHED: Fact = Fact { kind: 12, a: 31, b: 31, c: 0 };
+const FINISHED: Fact = Fact {
+    kind: 12,
+    a: 31,
+    b: 31,
+    c: 0,
+};
 
 fn most_of<S: Store>() -> (usize, usize) {
     (S::MOST, S::most_facts())
@@ -50,7 +70,7 @@ fn obeys<S: Store>(store: &mut S) -> Result<(), Fail> {
 }
 
 #[test]
-fn most_is_the_kinds_own(rt: LibcRuntime) -> Result<(), Fail> {
+fn most_is_the_kinds_own() -> Result<(), Fail> {
     check_eq(most_of::<Grid>(), (177_184, 177_184))?;
     check_eq(most_of::<List>(), (4_096, 4_096))?;
     check_eq(most_of::<Cache<Grid>>(), (177_184, 177_184))?;
