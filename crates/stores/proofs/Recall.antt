@@ -1,8 +1,7 @@
 use mathlib.Core.Path.{_≡_, refl, sym, ap, subst, _∙_}
-use mathlib.Core.Bool.{Bool, true, false, cond}
-use mathlib.Core.List.{List}
-use mathlib.Core.Logic.{_⊎_, inl, inr}
-use Prim.Native.Nat.{ℕ, _+_, _*_, _%_, _<_}
+use mathlib.Core.Bool.{Bool, true, false}
+use mathlib.Core.Logic.{inl, inr}
+use Prim.Native.Nat.{ℕ, _<_}
 use native.Mathlib.Omega.{arith}
 use lib.ListN.{length, getD, set, replicate, getD-replicate}
 use lib.Seq.{getD-set-same, getD-set-other}
@@ -15,7 +14,7 @@ use Rattle.facts.specs.Facts.{Not, Facts, with, same-fact}
 use Rattle.facts.proofs.Sets.{same-eq, same-refl, not-in, with-here, with-other}
 use Rattle.stores.specs.declared.cache.Answer.{Answer}
 use Rattle.stores.specs.declared.cache.Cache.{Cache}
-use Rattle.stores.specs.Memory.{Slots, slot-of, told, recalled, Remembered, noted, Honest, AtMost, Faithful}
+use Rattle.stores.specs.Memory.{Slots, slot-of, told, recalled, Remembered, noted, OthersStay, Honest, AtMost, Faithful}
 
 none-not-some : {P : Type 0} (b : Bool) → _≡_ {A = Option Bool} None (Some b) → P
 none-not-some b e = let z : _≡_ {A = ℕ} 0 1 = cc in absurd (omega arith)
@@ -85,19 +84,31 @@ noted-here xs f b n =
     sym (slot-same (noted xs f b) f (slot-of f) refl (record { fact = f; there = b })
     (getD-set-same xs (slot-of f) (Some (record { fact = f; there = b })) None h) refl)
 
--- what is remembered of the other facts was remembered before
+-- what is remembered in the other slots stays
+noted-stays : (xs : Slots) (f : Fact) (b : Bool) → OthersStay f xs (noted xs f b)
+unfolding recalled
+noted-stays xs f b g d =
+    ap (λ (y : Option Answer). told y g) (getD-set-other xs (slot-of f) (slot-of g) (Some (record { fact = f; there = b })) None d)
+
+pub noted-others : (xs ys : Slots) (f : Fact) (b : Bool) → ys ≡ noted xs f b → OthersStay f xs ys
+noted-others xs ys f b n g d = ap (λ (zs : Slots). recalled zs g) n ∙ noted-stays xs f b g d
+
+-- nothing else is remembered in the slot of a noted fact
+noted-alone : (xs : Slots) (f g : Fact) (b : Bool) → length xs ≡ 64 → slot-of g ≡ slot-of f → same-fact f g ≡ false
+    → recalled (noted xs f b) g ≡ None
+unfolding recalled
+noted-alone xs f g b n p d =
+    let h : slot-of f < length xs = omega (arith, slot-below f) in
+    ap (λ (k : ℕ). told (getD (noted xs f b) k None) g) p
+    ∙ ap (λ (y : Option Answer). told y g) (getD-set-same xs (slot-of f) (Some (record { fact = f; there = b })) None h)
+    ∙ cond-false (same-fact f g) (Some b) None d
+
+-- what is remembered of another fact was remembered before
 noted-other : (xs : Slots) (f g : Fact) (b v : Bool) → length xs ≡ 64 → same-fact f g ≡ false
     → recalled (noted xs f b) g ≡ Some v → recalled xs g ≡ Some v
-unfolding recalled
 noted-other xs f g b v n d e = elim (cases-eq (slot-of g) (slot-of f)) [
-  | inl p ↦
-      let h : slot-of f < length xs = omega (arith, slot-below f) in
-      let q = getD-set-same xs (slot-of f) (Some (record { fact = f; there = b })) None h in
-      let o : told (getD (noted xs f b) (slot-of g) None) g ≡ None =
-      ap (λ (k : ℕ). told (getD (noted xs f b) k None) g) p ∙ ap (λ (y : Option Answer). told y g) q
-      ∙ cond-false (same-fact f g) (Some b) None d in
-      none-not-some v (sym o ∙ e)
-  | inr p ↦ sym (ap (λ (y : Option Answer). told y g) (getD-set-other xs (slot-of f) (slot-of g) (Some (record { fact = f; there = b })) None p)) ∙ e
+  | inl p ↦ none-not-some v (sym (noted-alone xs f g b n p d) ∙ e)
+  | inr p ↦ sym (noted-stays xs f b g p) ∙ e
 ]
 
 -- an answer is noted of a set that changed at its fact alone

@@ -1,14 +1,14 @@
 use mathlib.Core.Path.{_≡_, refl, sym, ap, subst, _∙_, fun-ext}
-use mathlib.Core.Bool.{Bool, true, false, cond}
+use mathlib.Core.Bool.{Bool, true, false}
 use mathlib.Core.List.{List}
-use mathlib.Core.Logic.{_⊎_, inl, inr, _≢_}
+use mathlib.Core.Logic.{inl, inr, _≢_}
 use Prim.Native.Nat.{ℕ, _+_, _-_, min, _<_, _≤_}
 use native.Mathlib.Omega.{arith}
 use lib.Dec.{eqb, ltb}
 use lib.ListN.{length, getD, set, take, length-set, length-take}
 use lib.Seq.{getD-set-same, getD-set-other, getD-take, drop-set-lt}
-use denote.Ref.{RefT, name, now, at-last}
-use Rattle.std.proofs.shelf.Tests.{cases-eq, cases-bool, both-ways, ltb-true, ltb-false, eq-eqb, ne-eqb, cond-true, cond-false}
+use denote.Ref.{RefT, now, at-last}
+use Rattle.std.proofs.shelf.Tests.{cases-eq, cases-bool, both-ways, ltb-true, ltb-false, eq-eqb, ne-eqb, cond-true}
 use Rattle.std.specs.Options.{isSome}
 use Rattle.std.specs.declared.option.Option.{Option}
 use Rattle.std.specs.declared.option.Option.the-variants.{Some, None}

@@ -2,12 +2,12 @@ use mathlib.Core.Path.{_≡_}
 use mathlib.Core.List.{List}
 use mathlib.Core.Bool.{Bool, true, cond}
 use Prim.Native.Nat.{ℕ, _+_, _*_, _%_, _<_}
-use lib.ListN.{length, getD, set}
+use lib.ListN.{getD, set}
 use Rattle.std.specs.Options.{isSome}
 use Rattle.std.specs.declared.option.Option.{Option}
 use Rattle.std.specs.declared.option.Option.the-variants.{Some, None}
 use Rattle.facts.specs.declared.fact.Fact.{Fact}
-use Rattle.facts.specs.Facts.{Facts, same-fact}
+use Rattle.facts.specs.Facts.{Not, Facts, same-fact}
 use Rattle.stores.specs.declared.cache.Answer.{Answer}
 use Rattle.stores.specs.declared.cache.Cache.{Cache}
 
@@ -35,6 +35,10 @@ Remembered xs f = isSome (recalled xs f) ≡ true
 -- the slots after an answer is noted
 abbrev pub noted : Slots → Fact → Bool → Slots
 noted xs f b = set xs (slot-of f) (Some (record { fact = f; there = b }))
+
+-- what is remembered in the other slots than that of f is as it was
+abbrev pub OthersStay : Fact → Slots → Slots → Type 0
+OthersStay f xs ys = (g : Fact) → Not (slot-of g ≡ slot-of f) → recalled ys g ≡ recalled xs g
 
 -- each remembered answer is the set's own
 abbrev pub Honest : Facts → Slots → Type 0

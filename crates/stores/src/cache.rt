@@ -8,7 +8,7 @@ ghost use Rattle.std.specs.declared.option.Option.the-variants.{Some, None};
 ghost use Rattle.std.specs.declared.result.Result.the-variants.{Ok};
 ghost use Rattle.facts.specs.declared.fact.Fact.{Fact};
 ghost use Rattle.facts.specs.Stores.{Put, Take};
-ghost use Rattle.stores.specs.Memory.{slot-of, noted, recalled, Remembered, Honest, AtMost, Faithful};
+ghost use Rattle.stores.specs.Memory.{slot-of, noted, recalled, Remembered, OthersStay, Honest, AtMost, Faithful};
 use facts::fact::Fact;
 use facts::fact::FactPartialEq;
 use facts::refusal::Refusal;
@@ -99,12 +99,14 @@ pub impl<S: Store> Store for Cache<S> as CacheStore {
     }
 
     fn has(&mut self, fact: Fact) -> bool
-        ensures value { λ r. ⌜ (Faithful sound facts (now (self .entry)) → r ≡ facts (now (self .entry) .below) fact) ⌝ }
+        ensures value { λ r. ⌜ (Faithful sound facts (now (self .entry))
+            → r ≡ facts (now (self .entry) .below) fact) ⌝ }
         ensures kept { λ _. ⌜ (Faithful sound facts (now (self .entry)) → Faithful sound facts (now (self .exit))) ⌝ }
         ensures facts { λ _. ⌜ facts (now (self .exit) .below) ≡ facts (now (self .entry) .below) ⌝ }
         ensures room { λ _. ⌜ room (now (self .exit) .below) ≡ room (now (self .entry) .below) ⌝ }
         ensures outside { λ _. ⌜ outside (now (self .entry) .below) (now (self .exit) .below) ⌝ }
         ensures remembered { λ r. ⌜ recalled (now (self .exit) .slots) fact ≡ Some r ⌝ }
+        ensures others { λ _. ⌜ OthersStay fact (now (self .entry) .slots) (now (self .exit) .slots) ⌝ }
     {
         if let Some(there) = self.remembers(fact) {
             return there;
@@ -121,6 +123,7 @@ pub impl<S: Store> Store for Cache<S> as CacheStore {
             (facts (now (self .exit) .below)) (room (now (self .exit) .below))) ⌝ }
         ensures outside { λ _. ⌜ outside (now (self .entry) .below) (now (self .exit) .below) ⌝ }
         ensures remembered { λ r. ⌜ (r ≡ Ok tt → recalled (now (self .exit) .slots) fact ≡ Some true) ⌝ }
+        ensures others { λ _. ⌜ OthersStay fact (now (self .entry) .slots) (now (self .exit) .slots) ⌝ }
     {
         self.below.put(fact)?;
         self.note(fact, true);
@@ -134,6 +137,7 @@ pub impl<S: Store> Store for Cache<S> as CacheStore {
             (facts (now (self .exit) .below)) (room (now (self .exit) .below))) ⌝ }
         ensures outside { λ _. ⌜ outside (now (self .entry) .below) (now (self .exit) .below) ⌝ }
         ensures remembered { λ _. ⌜ recalled (now (self .exit) .slots) fact ≡ Some false ⌝ }
+        ensures others { λ _. ⌜ OthersStay fact (now (self .entry) .slots) (now (self .exit) .slots) ⌝ }
     {
         self.below.take(fact);
         self.note(fact, false);

@@ -1,14 +1,13 @@
 // A store in a list of places that the caller lends, unsorted: the used places come first.
 ghost use mathlib.Core.Path.{_≡_};
-ghost use Prim.Native.Nat.{ℕ, _-_, min};
+ghost use Prim.Native.Nat.{_-_, min};
 ghost use lib.ListN.{length};
 ghost use denote.Ref.{now, name};
-ghost use Rattle.facts.specs.Facts.{Facts};
-ghost use Rattle.facts.specs.Stores.{Only, Empty, Decides, Put, Take};
+ghost use Rattle.facts.specs.Stores.{Empty};
 ghost use Rattle.stores.specs.Lent.{SameBeyond};
-ghost use Rattle.stores.specs.Places.{among, usable, Tidy, Found};
 ghost use Rattle.stores.specs.LentLaws.{beyond-same, beyond-on};
 ghost use Rattle.stores.specs.PlaceLaws.{only-facts, within-most};
+ghost use Rattle.stores.specs.Places.{among, usable, Tidy, Found};
 use facts::fact::Fact;
 use facts::fact::FactPartialEq;
 use facts::refusal::Refusal;
@@ -38,7 +37,7 @@ impl<'a> List<'a> {
         self.places.len().min(Self::MOST)
     }
 
-    // The place of a fact among the used ones.
+    // The place of a fact among the used ones; a count past the usable part finds nothing, so no call writes there.
     fn find(&self, fact: Fact) -> Option<usize>
         ensures { λ r. ⌜ Found (now (now (self .entry) .places)) (now (self .entry) .used) fact r ⌝ }
     {

@@ -5,7 +5,6 @@ use Rattle.std.specs.declared.option.Option.the-variants.{Some, None}
 use Rattle.facts.specs.declared.fact.Fact.{Fact}
 use Rattle.facts.specs.Facts.{Not}
 use Rattle.facts.proofs.Sets.{fact-eq}
-use Rattle.stores.specs.Memory.{recalled}
 use Rattle.stores.proofs.Recall.{slot-none, slot-same, slot-other, honest-at, few}
 use Rattle.stores.proofs.cache.Cache.remembers.Needs as need
 

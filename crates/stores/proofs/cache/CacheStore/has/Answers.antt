@@ -1,6 +1,6 @@
-use mathlib.Core.Path.{_≡_, sym, ap, subst, _∙_}
+use mathlib.Core.Path.{sym, ap, subst, _∙_}
 use Rattle.facts.proofs.Sets.{with-stays}
-use Rattle.stores.proofs.Recall.{faithful-noted, noted-recalled}
+use Rattle.stores.proofs.Recall.{faithful-noted, noted-recalled, noted-others}
 use Rattle.stores.proofs.cache.CacheStore.has.Needs as need
 
 pub returns : need.returns
@@ -20,4 +20,5 @@ returns g c =
       room = ap (st .room) (n .below) ∙ e .room;
       outside = subst (st .outside (a .below)) (sym (n .below)) (e .outside);
       remembered = noted-recalled (a .slots) (c .note .last .self .slots) (c .args .fact) b (n .slots) (n .all);
+      others = noted-others (a .slots) (c .note .last .self .slots) (c .args .fact) b (n .slots);
     }

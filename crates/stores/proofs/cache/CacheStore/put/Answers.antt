@@ -1,14 +1,15 @@
-use mathlib.Core.Path.{_≡_, sym, ap, subst, _∙_}
+use mathlib.Core.Path.{_≡_, refl, sym, ap, subst, _∙_}
 use mathlib.Core.Bool.{true}
 use Rattle.std.proofs.shelf.Results.{err-from-errBy}
+use Rattle.std.specs.declared.option.Option.the-variants.{Some}
 use Rattle.std.specs.declared.result.Result.{Result}
 use Rattle.std.specs.declared.result.Result.the-variants.{Ok, Err}
 use Rattle.facts.specs.declared.refusal.Refusal.{Refusal}
 use Rattle.facts.specs.Facts.{Facts}
 use Rattle.facts.specs.Stores.{Put}
 use Rattle.facts.proofs.Sets.{put-accepted, put-refused, ok-not-err}
-use Rattle.stores.specs.Memory.{Honest}
-use Rattle.stores.proofs.Recall.{faithful-noted, noted-recalled}
+use Rattle.stores.specs.Memory.{recalled, Honest}
+use Rattle.stores.proofs.Recall.{faithful-noted, noted-recalled, noted-others}
 use Rattle.stores.proofs.cache.CacheStore.put.Needs as need
 
 pub returns-in-Break-put : need.returns-in-Break-put
@@ -33,7 +34,8 @@ returns-in-Break-put g c =
           Put f (st .facts (a .below)) (st .room (a .below)) x (st .facts s) (st .room s))
           (sym r) (e .does (h .lower));
       outside = e .outside;
-      remembered = λ o. absurd (ok-not-err {P = ⊥} why (sym o ∙ r));
+      remembered = λ o. ok-not-err {P = recalled (a .slots) f ≡ Some true} why (sym o ∙ r);
+      others = λ x _. refl {a = recalled (a .slots) x};
     }
 
 pub returns : need.returns
@@ -52,4 +54,5 @@ returns g c =
           (sym (n .below)) (e .does (h .lower));
       outside = subst (st .outside (a .below)) (sym (n .below)) (e .outside);
       remembered = λ _. noted-recalled (a .slots) (c .note .last .self .slots) f true (n .slots) (n .all);
+      others = noted-others (a .slots) (c .note .last .self .slots) (c .args .fact) true (n .slots);
     }

@@ -1,8 +1,8 @@
-use mathlib.Core.Path.{_≡_, sym, subst}
+use mathlib.Core.Path.{sym, subst}
 use mathlib.Core.Bool.{false}
 use Rattle.facts.specs.Stores.{Take}
 use Rattle.facts.proofs.Sets.{take-left}
-use Rattle.stores.proofs.Recall.{faithful-noted, noted-recalled}
+use Rattle.stores.proofs.Recall.{faithful-noted, noted-recalled, noted-others}
 use Rattle.stores.proofs.cache.CacheStore.take.Needs as need
 
 pub returns : need.returns
@@ -21,4 +21,5 @@ returns g c =
           (sym (n .below)) (e .does (h .lower));
       outside = subst (st .outside (a .below)) (sym (n .below)) (e .outside);
       remembered = noted-recalled (a .slots) (c .note .last .self .slots) f false (n .slots) (n .all);
+      others = noted-others (a .slots) (c .note .last .self .slots) (c .args .fact) false (n .slots);
     }

@@ -1,6 +1,5 @@
 use mathlib.Core.Path.{_≡_}
 use Prim.Native.Nat.{ℕ, _<_}
-use denote.Ref.{now}
 use lib.ListN.{getD}
 use Rattle.facts.specs.Facts.{Not}
 use Rattle.stores.specs.Places.{nil}
