@@ -17,21 +17,21 @@ pub enum Entry {
     Unused,
 }
 
-// What a fact says, in the order of the kinds' numbers from 1.
+// What a fact says, with the number of each kind.
 #[derive(Clone, Copy, PartialEq, Eq, Debug)]
 pub enum Kind {
-    UserRole,
-    PermissionRole,
-    TaskRole,
-    Senior,
-    UserConflict,
-    RoleConflict,
-    PermissionConflict,
-    TaskConflict,
-    AtOdds,
-    OpenCase,
-    Taken,
-    Finished,
+    UserRole = 1,
+    PermissionRole = 2,
+    TaskRole = 3,
+    Senior = 4,
+    UserConflict = 5,
+    RoleConflict = 6,
+    PermissionConflict = 7,
+    TaskConflict = 8,
+    AtOdds = 9,
+    OpenCase = 10,
+    Taken = 11,
+    Finished = 12,
 }
 
 #[derive(Clone, Copy, PartialEq, Eq, Debug)]
@@ -62,20 +62,7 @@ impl Kind {
     pub fn number(self) -> u8
         ensures { λ r. ⌜ r ≡ number self ⌝ }
     {
-        match self {
-            Kind::UserRole => 1,
-            Kind::PermissionRole => 2,
-            Kind::TaskRole => 3,
-            Kind::Senior => 4,
-            Kind::UserConflict => 5,
-            Kind::RoleConflict => 6,
-            Kind::PermissionConflict => 7,
-            Kind::TaskConflict => 8,
-            Kind::AtOdds => 9,
-            Kind::OpenCase => 10,
-            Kind::Taken => 11,
-            Kind::Finished => 12,
-        }
+        self as u8
     }
 
     pub fn of_number(number: u8) -> Option<Kind>
