@@ -1,11 +1,10 @@
 use mathlib.Core.Path.{_≡_}
 use mathlib.Core.Bool.{Bool}
-use mathlib.Core.List.{List, [], _∷_}
 use Prim.Native.Nat.{ℕ}
 use Rattle.std.specs.declared.result.Result.{Result}
 use Rattle.std.specs.declared.result.Result.the-variants.{Ok, Err}
 use Rattle.facts.specs.declared.refusal.Refusal.{Refusal}
-use Rattle.facts.specs.Facts.{Facts, fact}
+use Rattle.facts.specs.Facts.{Facts}
 use Rattle.facts.specs.Stores.{Empty as IsEmpty, Decides, Stays, Put as Puts, Take as Takes}
 use Rattle.book_grid.specs.declared.step.Step.{Step}
 use Rattle.book_grid.specs.declared.step.Step.the-variants.{Put, Has, Take, Empty}
@@ -23,23 +22,3 @@ Does (Put f) m n a m′ n′ = (r : Result (Unit {0}) Refusal) × (a ≡ answer-
 Does (Has f) m n a m′ n′ = (a ≡ Is (m f)) × Stays m n m′ n′
 Does (Take f) m n a m′ n′ = (a ≡ Taken) × Takes f m n m′ n′
 Does Empty m n a m′ n′ = (b : Bool) × (a ≡ Is b) × Decides b (IsEmpty m) × Stays m n m′ n′
-
--- a small release: user 20 is assigned to role 2 and takes task 5 in case 0; later the assignment is taken back
-abbrev pub release-steps : List Step
-release-steps =
-    Empty
-    ∷ Put (fact 4 2 1 0)
-    ∷ Put (fact 2 10 1 0)
-    ∷ Put (fact 3 5 2 0)
-    ∷ Put (fact 1 20 2 0)
-    ∷ Put (fact 6 2 3 0)
-    ∷ Put (fact 9 5 7 0)
-    ∷ Put (fact 10 0 0 0)
-    ∷ Put (fact 11 0 5 20)
-    ∷ Put (fact 1 20 2 0)
-    ∷ Has (fact 1 20 2 0)
-    ∷ Take (fact 1 20 2 0)
-    ∷ Has (fact 1 20 2 0)
-    ∷ Put (fact 1 128 2 0)
-    ∷ Empty
-    ∷ []

@@ -4,6 +4,8 @@ mod runs;
 mod step;
 mod words;
 
+use cache::Cache;
+use cache::CacheStore;
 use facts::fact::Fact;
 use facts::fact::Kind;
 use runs::keep_release;
@@ -11,8 +13,6 @@ use runs::keep_remembered;
 use runs::show;
 use std::io;
 use step::Step;
-use stores::cache::Cache;
-use stores::cache::CacheStore;
 use stores::grid::Grid;
 use stores::grid::GridStore;
 use stores::list::List;

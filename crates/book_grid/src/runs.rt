@@ -1,43 +1,93 @@
 // A small release, kept in any store, with a line for each call.
 ghost use mathlib.Core.Path.{_≡_};
 ghost use Rattle.std.specs.Vec.{made};
-ghost use Rattle.stores.specs.Memory.{recalled, Faithful};
-ghost use Rattle.book_grid.specs.Steps.{release-steps};
+ghost use Rattle.cache.specs.Memory.{recalled, Faithful};
 use crate::step::AnswerDisplay;
 use crate::step::Step;
 use crate::step::StepDisplay;
 use crate::words::InWords;
 use crate::words::InWordsDisplay;
+use cache::Cache;
+use cache::CacheStore;
 use facts::fact::Fact;
 use facts::fact::Kind;
 use facts::store::Store;
 use std::io;
-use stores::cache::Cache;
-use stores::cache::CacheStore;
+
+const ASSIGNED: Fact = Fact {
+    kind: Kind::UserRole as u8,
+    a: 20,
+    b: 2,
+    c: 0,
+};
+
+const OPEN: Fact = Fact {
+    kind: Kind::OpenCase as u8,
+    a: 0,
+    b: 0,
+    c: 0,
+};
+
+const NEVER_ASKED: Fact = Fact {
+    kind: Kind::UserRole as u8,
+    a: 22,
+    b: 1,
+    c: 0,
+};
 
 // User 20 prepares the profile by role 2, and takes task 5 in case 0; later user 20 loses the role.
-fn release() -> [Step; 15]
-    ensures { λ r. ⌜ r ≡ release-steps ⌝ }
-{
-    let assigned = Fact::new(Kind::UserRole, 20, 2, 0);
-    [
-        Step::Empty,
-        Step::Put(Fact::new(Kind::Senior, 2, 1, 0)),
-        Step::Put(Fact::new(Kind::PermissionRole, 10, 1, 0)),
-        Step::Put(Fact::new(Kind::TaskRole, 5, 2, 0)),
-        Step::Put(assigned),
-        Step::Put(Fact::new(Kind::RoleConflict, 2, 3, 0)),
-        Step::Put(Fact::new(Kind::AtOdds, 5, 7, 0)),
-        Step::Put(Fact::new(Kind::OpenCase, 0, 0, 0)),
-        Step::Put(Fact::new(Kind::Taken, 0, 5, 20)),
-        Step::Put(assigned),
-        Step::Has(assigned),
-        Step::Take(assigned),
-        Step::Has(assigned),
-        Step::Put(Fact::new(Kind::UserRole, 128, 2, 0)),
-        Step::Empty,
-    ]
-}
+const RELEASE: [Step; 15] = [
+    Step::Empty,
+    Step::Put(Fact {
+        kind: Kind::Senior as u8,
+        a: 2,
+        b: 1,
+        c: 0,
+    }),
+    Step::Put(Fact {
+        kind: Kind::PermissionRole as u8,
+        a: 10,
+        b: 1,
+        c: 0,
+    }),
+    Step::Put(Fact {
+        kind: Kind::TaskRole as u8,
+        a: 5,
+        b: 2,
+        c: 0,
+    }),
+    Step::Put(ASSIGNED),
+    Step::Put(Fact {
+        kind: Kind::RoleConflict as u8,
+        a: 2,
+        b: 3,
+        c: 0,
+    }),
+    Step::Put(Fact {
+        kind: Kind::AtOdds as u8,
+        a: 5,
+        b: 7,
+        c: 0,
+    }),
+    Step::Put(OPEN),
+    Step::Put(Fact {
+        kind: Kind::Taken as u8,
+        a: 0,
+        b: 5,
+        c: 20,
+    }),
+    Step::Put(ASSIGNED),
+    Step::Has(ASSIGNED),
+    Step::Take(ASSIGNED),
+    Step::Has(ASSIGNED),
+    Step::Put(Fact {
+        kind: Kind::UserRole as u8,
+        a: 128,
+        b: 2,
+        c: 0,
+    }),
+    Step::Empty,
+];
 
 // Runs one step, and tells what it answers.
 pub fn show<S: Store>(rt: &LibcRuntime, store: &mut S, step: Step) -> io::Result<()>
@@ -65,7 +115,7 @@ pub fn keep_release<S: Store>(rt: &LibcRuntime, store: &mut S) -> io::Result<()>
     ensures outside { λ _. ⌜ outside (now (store .entry)) (now (store .exit)) ⌝ }
 {
     let before = store.spare();
-    play(rt, store, &release())?;
+    play(rt, store, &RELEASE)?;
     let fell = before.saturating_sub(store.spare());
     println!(rt, "  the spare fell by {fell}")
 }
@@ -90,8 +140,8 @@ pub fn keep_remembered<S: Store>(rt: &LibcRuntime, store: &mut Cache<S>) -> io::
     ensures outside { λ _. ⌜ outside (now (store .entry) .below) (now (store .exit) .below) ⌝ }
 {
     keep_release(rt, store)?;
-    recollect(rt, store, Fact::new(Kind::UserRole, 20, 2, 0))?;
-    recollect(rt, store, Fact::new(Kind::OpenCase, 0, 0, 0))?;
-    recollect(rt, store, Fact::new(Kind::UserRole, 22, 1, 0))?;
+    recollect(rt, store, ASSIGNED)?;
+    recollect(rt, store, OPEN)?;
+    recollect(rt, store, NEVER_ASKED)?;
     Ok(())
 }

@@ -1,14 +1,15 @@
 // What the stores do with the caller's memory, and what a cache remembers.
+ghost use Rattle.stores.specs.Bits.{GridKeeps};
+use crate::calls::has;
+use crate::calls::put;
+use crate::calls::remembers;
+use cache::Cache;
+use cache::CacheStore;
 use facts::fact::Fact;
 use facts::fact::FactDebug;
 use facts::fact::FactPartialEq;
-use facts::refusal::Refusal;
-use facts::refusal::RefusalDebug;
-use facts::refusal::RefusalPartialEq;
 use facts::store::Store;
 use std::test::*;
-use stores::cache::Cache;
-use stores::cache::CacheStore;
 use stores::grid::Grid;
 use stores::grid::GridStore;
 use stores::list::List;
@@ -45,18 +46,34 @@ const LAST: Fact = Fact {
 
 const GUARD: u8 = 0xa5;
 
+// Puts a fact into a new grid and lets the grid go. The caller's bytes behind it are as they were, and all of fewer.
+fn put_and_let_go(bytes: &mut [u8], fact: Fact) -> bool
+    ensures { λ _. ⌜ GridKeeps (bytes .entry) (bytes .exit) ⌝ }
+{
+    let mut grid = Grid::new(bytes);
+    grid.put(fact).is_ok()
+}
+
 #[test]
 fn a_grid_ends_at_its_last_byte(rt: LibcRuntime) -> Result<(), Fail> {
     let mut bytes = vec![in rt.alloc(); GUARD; 22_149]?;
-    let mut grid = Grid::new(bytes.as_mut_slice());
-    check_eq(grid.spare(), 177_184)?;
-    check(grid.empty())?;
-    check_eq(grid.put(LAST), Ok(()))?;
-    check_eq(grid.put(FIRST), Ok(()))?;
-    check_eq(grid.spare(), 177_182)?;
-    grid.take(FIRST);
+    check(put_and_let_go(bytes.as_mut_slice(), LAST))?;
     check_eq(bytes.get(0).copied(), Some(0))?;
     check_eq(bytes.get(22_147).copied(), Some(0x80))?;
+    check_eq(bytes.get(22_148).copied(), Some(GUARD))
+}
+
+#[test]
+fn a_grid_under_a_cache_ends_there_too(rt: LibcRuntime) -> Result<(), Fail> {
+    let mut bytes = vec![in rt.alloc(); GUARD; 22_149]?;
+    let mut cache = Cache::new(Grid::new(bytes.as_mut_slice()));
+    let spare = cache.spare();
+    let answers = [put(&mut cache, LAST), put(&mut cache, FIRST)];
+    cache.take(LAST);
+    check_eq([spare, cache.spare()], [177_184, 177_183])?;
+    check_eq(answers, [0, 0])?;
+    check_eq(bytes.get(0).copied(), Some(1))?;
+    check_eq(bytes.get(22_147).copied(), Some(0))?;
     check_eq(bytes.get(22_148).copied(), Some(GUARD))
 }
 
@@ -64,12 +81,10 @@ fn a_grid_ends_at_its_last_byte(rt: LibcRuntime) -> Result<(), Fail> {
 fn a_grid_of_fewer_bytes_writes_nothing(rt: LibcRuntime) -> Result<(), Fail> {
     let mut bytes = vec![in rt.alloc(); GUARD; 22_147]?;
     let mut grid = Grid::new(bytes.as_mut_slice());
-    check_eq(grid.spare(), 0)?;
-    check(grid.empty())?;
-    check_eq(grid.put(FIRST), Err(Refusal::Full))?;
-    check_eq(grid.put(NO_FACT), Err(Refusal::NoFact))?;
+    let answers = [put(&mut grid, FIRST), put(&mut grid, NO_FACT)];
     grid.take(FIRST);
-    check(!grid.has(FIRST))?;
+    check(grid.empty() && grid.spare() == 0 && !grid.has(FIRST))?;
+    check_eq(answers, [23, 1])?;
     let untouched = vec![in rt.alloc(); GUARD; 22_147]?;
     check(bytes == untouched)
 }
@@ -78,15 +93,24 @@ fn a_grid_of_fewer_bytes_writes_nothing(rt: LibcRuntime) -> Result<(), Fail> {
 fn a_full_list_refuses_and_a_take_makes_room() -> Result<(), Fail> {
     let mut places = [NO_FACT; 2];
     let mut list = List::new(&mut places);
-    check_eq(list.put(FIRST), Ok(()))?;
-    check_eq(list.put(BESIDE), Ok(()))?;
-    check_eq(list.put(LAST), Err(Refusal::Full))?;
-    check_eq(list.put(FIRST), Ok(()))?;
+    let full = [
+        put(&mut list, FIRST),
+        put(&mut list, BESIDE),
+        put(&mut list, LAST),
+        put(&mut list, FIRST),
+    ];
+    check_eq(full, [0, 0, 23, 0])?;
     list.take(FIRST);
     check_eq(list.spare(), 1)?;
-    check_eq(list.put(LAST), Ok(()))?;
-    check(list.has(BESIDE) && list.has(LAST) && !list.has(FIRST))?;
-    check_eq(List::new(&mut []).put(FIRST), Err(Refusal::Full))
+    check_eq([put(&mut list, LAST), put(&mut list, FIRST)], [0, 23])?;
+    check_eq(
+        [
+            has(&mut list, FIRST),
+            has(&mut list, BESIDE),
+            has(&mut list, LAST),
+        ],
+        ['n', 'y', 'y'],
+    )
 }
 
 // The facts of kind 11 with case 0, in their order.
@@ -103,13 +127,15 @@ fn taken(n: usize) -> Fact {
 fn a_list_uses_4096_places(rt: LibcRuntime) -> Result<(), Fail> {
     let mut places = vec![in rt.alloc(); LAST; 4_098]?;
     let mut list = List::new(places.as_mut_slice());
-    check_eq(list.spare(), 4_096)?;
+    let spare = list.spare();
     for n in 0..4_096 {
-        list.put(taken(n))?;
+        let _ = put(&mut list, taken(n));
     }
-    check_eq(list.spare(), 0)?;
-    check(list.has(taken(4_095)))?;
-    check_eq(list.put(FIRST), Err(Refusal::Full))?;
+    check_eq([spare, list.spare()], [4_096, 0])?;
+    check_eq(
+        [put(&mut list, FIRST), put(&mut list, taken(4_095))],
+        [23, 0],
+    )?;
     check_eq(places.get(4_095).copied(), Some(taken(4_095)))?;
     check_eq(places.get(4_096).copied(), Some(LAST))?;
     check_eq(places.get(4_097).copied(), Some(LAST))
@@ -119,32 +145,50 @@ fn a_list_uses_4096_places(rt: LibcRuntime) -> Result<(), Fail> {
 fn a_cache_remembers_what_it_was_asked() -> Result<(), Fail> {
     let mut places = [NO_FACT; 2];
     let mut cache = Cache::new(List::new(&mut places));
-    check_eq(cache.remembers(FIRST), None)?;
-    check(!cache.has(FIRST))?;
-    check_eq(cache.remembers(FIRST), Some(false))?;
-    check_eq(cache.put(FIRST), Ok(()))?;
-    check_eq(cache.remembers(FIRST), Some(true))?;
-    check(!cache.has(BESIDE))?;
-    check_eq(cache.remembers(BESIDE), Some(false))?;
-    check_eq(cache.remembers(FIRST), None)?;
-    check(cache.has(FIRST))?;
+    let unasked = remembers(&cache, FIRST);
+    check_eq(
+        [unasked, has(&mut cache, FIRST), remembers(&cache, FIRST)],
+        ['-', 'n', 'n'],
+    )?;
+    check_eq(put(&mut cache, FIRST), 0)?;
+    check_eq(
+        [
+            remembers(&cache, FIRST),
+            has(&mut cache, BESIDE),
+            remembers(&cache, FIRST),
+        ],
+        ['y', 'n', '-'],
+    )?;
+    check_eq(
+        [has(&mut cache, FIRST), remembers(&cache, BESIDE)],
+        ['y', '-'],
+    )?;
     cache.take(FIRST);
-    check_eq(cache.remembers(FIRST), Some(false))?;
-    check(!cache.has(FIRST))?;
-    check_eq(cache.put(NO_FACT), Err(Refusal::NoFact))?;
-    check_eq(cache.remembers(FIRST), Some(false))
+    check_eq(
+        [remembers(&cache, FIRST), has(&mut cache, FIRST)],
+        ['n', 'n'],
+    )
 }
 
 #[test]
 fn a_refused_put_is_not_remembered_as_there() -> Result<(), Fail> {
     let mut places = [NO_FACT; 1];
     let mut cache = Cache::new(Cache::new(List::new(&mut places)));
-    check_eq(cache.put(LAST), Ok(()))?;
-    check_eq(cache.put(FIRST), Err(Refusal::Full))?;
-    check_ne(cache.remembers(FIRST), Some(true))?;
-    check(!cache.has(FIRST))?;
-    check_eq(cache.remembers(FIRST), Some(false))?;
+    let answers = [
+        put(&mut cache, LAST),
+        put(&mut cache, FIRST),
+        put(&mut cache, NO_FACT),
+    ];
+    check_eq(answers, [0, 23, 1])?;
+    check_eq(
+        [
+            remembers(&cache, FIRST),
+            has(&mut cache, FIRST),
+            remembers(&cache, FIRST),
+        ],
+        ['-', 'n', 'n'],
+    )?;
     cache.take(LAST);
-    check_eq(cache.put(FIRST), Ok(()))?;
-    check(cache.has(FIRST) && !cache.has(LAST))
+    check_eq(put(&mut cache, FIRST), 0)?;
+    check_eq([has(&mut cache, FIRST), has(&mut cache, LAST)], ['y', 'n'])
 }

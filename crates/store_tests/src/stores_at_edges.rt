@@ -1,18 +1,13 @@
+use cache::Cache;
+use cache::CacheStore;
 use facts::fact::Fact;
-use facts::fact::FactDebug;
-use facts::fact::FactPartialEq;
 use facts::laws::put_then_has;
 use facts::laws::put_then_take;
 use facts::laws::put_twice;
 use facts::laws::spare_within;
 use facts::laws::take_then_has;
-use facts::refusal::Refusal;
-use facts::refusal::RefusalDebug;
-use facts::refusal::RefusalPartialEq;
 use facts::store::Store;
 use std::test::*;
-use stores::cache::Cache;
-use stores::cache::CacheStore;
 use stores::grid::Grid;
 use stores::grid::GridStore;
 use stores::list::List;
@@ -32,13 +27,6 @@ const ASSIGNED: Fact = Fact {
     c: 0,
 };
 
-const OPEN: Fact = Fact {
-    kind: 10,
-    a: 0,
-    b: 0,
-    c: 0,
-};
-
 // The last fact of the numbering.
 const FINISHED: Fact = Fact {
     kind: 12,
@@ -54,19 +42,14 @@ fn most_of<S: Store>() -> (usize, usize) {
 // What every store does with one fact, from empty and back.
 fn obeys<S: Store>(store: &mut S) -> Result<(), Fail> {
     let spare = store.spare();
-    check(store.empty())?;
-    check(spare_within(store) <= S::MOST)?;
-    check_eq(put_then_has(store, FINISHED), (Ok(()), true))?;
-    check(!store.empty())?;
-    check_eq(store.spare().saturating_add(1), spare)?;
-    check_eq(put_twice(store, FINISHED), Ok(()))?;
-    check_eq(put_then_has(store, NO_FACT), (Err(Refusal::NoFact), false))?;
+    let (answer, there) = put_then_has(store, FINISHED);
+    check(answer.is_ok() && there && put_twice(store, FINISHED).is_ok())?;
+    check(!store.empty() && store.spare().saturating_add(1) == spare)?;
+    let (answer, there) = put_then_has(store, NO_FACT);
     put_then_take(store, ASSIGNED);
-    check_eq(store.spare().saturating_add(1), spare)?;
-    check(store.has(FINISHED))?;
-    check(!take_then_has(store, FINISHED))?;
-    check(store.empty())?;
-    check_eq(store.spare(), spare)
+    check(answer.is_err() && !there && store.spare().saturating_add(1) == spare)?;
+    check(store.has(FINISHED) && !take_then_has(store, FINISHED))?;
+    check(store.empty() && spare_within(store) == spare && spare <= S::MOST)
 }
 
 #[test]

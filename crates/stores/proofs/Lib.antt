@@ -1,6 +1,5 @@
 pub mod Flips
 pub mod Grids
 pub mod Onto
-pub mod Recall
 pub mod Rows
 pub mod Tallies
