@@ -7,7 +7,7 @@ ghost use Rattle.std.specs.declared.option.Option.the-variants.{None};
 ghost use Rattle.facts.specs.Facts.{size, number, kind-of, entries, fact, in-ranges, is-fact};
 
 // What can stand in an entry.
-#[derive(Clone, Copy, PartialEq, Eq, Debug)]
+#[derive(Clone, Copy)]
 pub enum Entry {
     User,
     Role,

@@ -8,7 +8,8 @@ use lib.Bits.{bitXor}
 use lib.Dec.{eqb}
 use lib.ListN.{length, getD, set, drop, length-set}
 use lib.Seq.{getD-set-same, getD-set-other, drop-set-lt}
-use Rattle.std.proofs.shelf.Tests.{and-parts, both-ways, not-true, cases-eq, eq-eqb, ne-eqb, cond-true, cond-false}
+use Rattle.std.proofs.shelf.Bits.{xor-shr, xor-mod}
+use Rattle.std.proofs.shelf.Tests.{and-parts, not-true, eqb-true, cases-eq, eq-eqb, ne-eqb, cond-true, cond-false}
 use denote.Ref.{RefT, now, at-last}
 use Rattle.stores.specs.Bits.{bit-in, bit, Flipped}
 use Rattle.stores.specs.Lent.{SameBeyond}
@@ -24,35 +25,55 @@ below-at p (suc n) e k h =
     let w = and-parts (p n) (all-below p n) e in
     elim (cases-eq k n) [ inl q ↦ ap p q ∙ w .0 | inr d ↦ below-at p n (w .1) k (omega arith) ]
 
-abbrev same : Bool → Bool → Bool
-same a b = cond a b (not b)
-
-same-eq : (a b : Bool) → same a b ≡ true → a ≡ b
-same-eq true true e = refl
-same-eq true false e = sym e
-same-eq false true e = e
-same-eq false false e = refl
-
 abbrev bit-now : ℕ → ℕ → Bool
 bit-now x j = eqb ((x / 2 ^ j) % 2) 1
 
+-- the mask of a bit, as the code computes it
+abbrev mask : ℕ → ℕ
+mask j = (1 * 2 ^ j) % 256
+
+mask-table : all-below (λ j. all-below (λ k. eqb ((mask j / 2 ^ k) % 2) (cond (eqb k j) 1 0)) 8) 8 ≡ true
+mask-table = refl
+
+mask-bit : (j k : ℕ) → j < 8 → k < 8 → (mask j / 2 ^ k) % 2 ≡ cond (eqb k j) 1 0
+mask-bit j k hj hk =
+    let at-j = below-at (λ i. all-below (λ m. eqb ((mask i / 2 ^ m) % 2) (cond (eqb m i) 1 0)) 8) 8 mask-table j hj in
+    eqb-true _ _ (below-at (λ m. eqb ((mask j / 2 ^ m) % 2) (cond (eqb m j) 1 0)) 8 at-j k hk)
+
 -- the byte with one bit the other way round, as the code computes it
 abbrev turned : ℕ → ℕ → ℕ
-turned x j = bitXor x ((1 * 2 ^ j) % 256)
+turned x j = bitXor x (mask j)
 
-abbrev turn-test : ℕ → ℕ → ℕ → Bool
-turn-test x j k = same (bit-now (turned x j) k) (cond (eqb k j) (not (bit-now x j)) (bit-now x k))
+-- a digit that is turned, and one that is not
+turn-one : (u : ℕ) → u < 2 → eqb (bitXor u 1) 1 ≡ not (eqb u 1)
+turn-one u h = elim (cases-eq u 0) [
+  | inl z ↦ rw z refl
+  | inr d ↦ let e : u ≡ 1 = omega arith in rw e refl
+]
 
-turn-table : all-below (λ x. all-below (λ j. all-below (turn-test x j) 8) 8) 256 ≡ true
-turn-table = refl
+turn-none : (u : ℕ) → u < 2 → eqb (bitXor u 0) 1 ≡ eqb u 1
+turn-none u h = elim (cases-eq u 0) [
+  | inl z ↦ rw z refl
+  | inr d ↦ let e : u ≡ 1 = omega arith in rw e refl
+]
 
-pub turned-bit : (x j k : ℕ) → x < 256 → j < 8 → k < 8
+pub turned-bit : (x j k : ℕ) → j < 8 → k < 8
     → bit-in (turned x j) k ≡ cond (eqb k j) (not (bit-in x j)) (bit-in x k)
 unfolding bit-in
-turned-bit x j k hx hj hk =
-    let at-x = below-at (λ y. all-below (λ i. all-below (turn-test y i) 8) 8) 256 turn-table x hx in
-    let at-j = below-at (λ i. all-below (turn-test x i) 8) 8 at-x j hj in
-    same-eq _ _ (below-at (turn-test x j) 8 at-j k hk)
+turned-bit x j k hj hk =
+    let digit : (turned x j / 2 ^ k) % 2 ≡ bitXor ((x / 2 ^ k) % 2) ((mask j / 2 ^ k) % 2) =
+    ap (λ (n : ℕ). n % 2) (xor-shr x (mask j) k) ∙ xor-mod (x / 2 ^ k) (mask j / 2 ^ k) 1 in
+    let low : (x / 2 ^ k) % 2 < 2 = omega arith in
+    elim (cases-eq k j) [
+      | inl e ↦
+          let one : (mask j / 2 ^ k) % 2 ≡ 1 = mask-bit j k hj hk ∙ cond-true (eqb k j) 1 0 (eq-eqb k j e) in
+          ap (λ (n : ℕ). eqb n 1) (digit ∙ ap (bitXor ((x / 2 ^ k) % 2)) one) ∙ turn-one _ low
+          ∙ ap (λ (n : ℕ). not (bit-now x n)) e ∙ sym (cond-true (eqb k j) (not (bit-now x j)) (bit-now x k) (eq-eqb k j e))
+      | inr d ↦
+          let none : (mask j / 2 ^ k) % 2 ≡ 0 = mask-bit j k hj hk ∙ cond-false (eqb k j) 1 0 (ne-eqb k j d) in
+          ap (λ (n : ℕ). eqb n 1) (digit ∙ ap (bitXor ((x / 2 ^ k) % 2)) none) ∙ turn-none _ low
+          ∙ sym (cond-false (eqb k j) (not (bit-now x j)) (bit-now x k) (ne-eqb k j d))
+    ]
 
 -- no bit of the byte 0 is set
 none-table : all-below (λ j. not (bit-now 0 j)) 8 ≡ true

@@ -1,6 +1,5 @@
-use native.Mathlib.Omega.{arith}
 use Rattle.stores.proofs.Flips.{turned-bit}
 use Rattle.stores.proofs.grid.flipped.Needs as need
 
 pub returns : need.returns
-returns c k h = turned-bit (c .args .byte) (c .args .place) k (omega arith) (c .pre) h
+returns c k h = turned-bit (c .args .byte) (c .args .place) k (c .pre) h
