@@ -30,8 +30,8 @@ impl Step {
         ensures kept { λ _. ⌜ (sound (now (store .entry)) → sound (now (store .exit))) ⌝ }
         ensures outside { λ _. ⌜ outside (now (store .entry)) (now (store .exit)) ⌝ }
         ensures does { λ r. ⌜ (sound (now (store .entry))
-            → Does self (facts (now (store .entry))) (room (now (store .entry))) r
-            (facts (now (store .exit))) (room (now (store .exit)))) ⌝ }
+            → Does self (facts (now (store .entry))) (spare (now (store .entry))) r
+            (facts (now (store .exit))) (spare (now (store .exit)))) ⌝ }
     {
         match self {
             Step::Put(fact) => match store.put(fact) {

@@ -80,7 +80,7 @@ pub impl<S: Store> Store for Cache<S> as CacheStore {
 
     ghost facts = { λ c. S·Store .facts (c .below) };
 
-    ghost room = { λ c. S·Store .room (c .below) };
+    ghost spare = { λ c. S·Store .spare (c .below) };
 
     ghost sound = { λ c. Faithful (S·Store .sound) (S·Store .facts) c };
 
@@ -103,7 +103,7 @@ pub impl<S: Store> Store for Cache<S> as CacheStore {
             → r ≡ facts (now (self .entry) .below) fact) ⌝ }
         ensures kept { λ _. ⌜ (Faithful sound facts (now (self .entry)) → Faithful sound facts (now (self .exit))) ⌝ }
         ensures facts { λ _. ⌜ facts (now (self .exit) .below) ≡ facts (now (self .entry) .below) ⌝ }
-        ensures room { λ _. ⌜ room (now (self .exit) .below) ≡ room (now (self .entry) .below) ⌝ }
+        ensures spare { λ _. ⌜ spare (now (self .exit) .below) ≡ spare (now (self .entry) .below) ⌝ }
         ensures outside { λ _. ⌜ outside (now (self .entry) .below) (now (self .exit) .below) ⌝ }
         ensures remembered { λ r. ⌜ recalled (now (self .exit) .slots) fact ≡ Some r ⌝ }
         ensures others { λ _. ⌜ OthersStay fact (now (self .entry) .slots) (now (self .exit) .slots) ⌝ }
@@ -119,8 +119,8 @@ pub impl<S: Store> Store for Cache<S> as CacheStore {
     fn put(&mut self, fact: Fact) -> Result<(), Refusal>
         ensures kept { λ _. ⌜ (Faithful sound facts (now (self .entry)) → Faithful sound facts (now (self .exit))) ⌝ }
         ensures does { λ r. ⌜ (Faithful sound facts (now (self .entry))
-            → Put fact (facts (now (self .entry) .below)) (room (now (self .entry) .below)) r
-            (facts (now (self .exit) .below)) (room (now (self .exit) .below))) ⌝ }
+            → Put fact (facts (now (self .entry) .below)) (spare (now (self .entry) .below)) r
+            (facts (now (self .exit) .below)) (spare (now (self .exit) .below))) ⌝ }
         ensures outside { λ _. ⌜ outside (now (self .entry) .below) (now (self .exit) .below) ⌝ }
         ensures remembered { λ r. ⌜ (r ≡ Ok tt → recalled (now (self .exit) .slots) fact ≡ Some true) ⌝ }
         ensures others { λ _. ⌜ OthersStay fact (now (self .entry) .slots) (now (self .exit) .slots) ⌝ }
@@ -133,8 +133,8 @@ pub impl<S: Store> Store for Cache<S> as CacheStore {
     fn take(&mut self, fact: Fact)
         ensures kept { λ _. ⌜ (Faithful sound facts (now (self .entry)) → Faithful sound facts (now (self .exit))) ⌝ }
         ensures does { λ _. ⌜ (Faithful sound facts (now (self .entry))
-            → Take fact (facts (now (self .entry) .below)) (room (now (self .entry) .below))
-            (facts (now (self .exit) .below)) (room (now (self .exit) .below))) ⌝ }
+            → Take fact (facts (now (self .entry) .below)) (spare (now (self .entry) .below))
+            (facts (now (self .exit) .below)) (spare (now (self .exit) .below))) ⌝ }
         ensures outside { λ _. ⌜ outside (now (self .entry) .below) (now (self .exit) .below) ⌝ }
         ensures remembered { λ _. ⌜ recalled (now (self .exit) .slots) fact ≡ Some false ⌝ }
         ensures others { λ _. ⌜ OthersStay fact (now (self .entry) .slots) (now (self .exit) .slots) ⌝ }

@@ -15,7 +15,7 @@ pub trait Store {
 
     ghost facts: { Self → Facts };
 
-    ghost room: { Self → ℕ };
+    ghost spare: { Self → ℕ };
 
     ghost sound: { Self → Type 0 };
 
@@ -26,7 +26,7 @@ pub trait Store {
     ghost only: { (s : Self) → sound s → Only (facts s) };
 
     // The spare never exceeds the most.
-    ghost bounded: { (s : Self) → room s ≤ limit };
+    ghost bounded: { (s : Self) → spare s ≤ limit };
 
     // So it is where nothing is done, and where one call follows another.
     ghost unmoved: { (s : Self) → outside s s };
@@ -40,23 +40,23 @@ pub trait Store {
         ensures value { λ r. ⌜ (sound (now (self .entry)) → r ≡ facts (now (self .entry)) fact) ⌝ }
         ensures kept { λ _. ⌜ (sound (now (self .entry)) → sound (now (self .exit))) ⌝ }
         ensures facts { λ _. ⌜ facts (now (self .exit)) ≡ facts (now (self .entry)) ⌝ }
-        ensures room { λ _. ⌜ room (now (self .exit)) ≡ room (now (self .entry)) ⌝ }
+        ensures spare { λ _. ⌜ spare (now (self .exit)) ≡ spare (now (self .entry)) ⌝ }
         ensures outside { λ _. ⌜ outside (now (self .entry)) (now (self .exit)) ⌝ };
 
     fn put(&mut self, fact: Fact) -> Result<(), Refusal>
         ensures kept { λ _. ⌜ (sound (now (self .entry)) → sound (now (self .exit))) ⌝ }
         ensures does { λ r. ⌜ (sound (now (self .entry))
-            → Put fact (facts (now (self .entry))) (room (now (self .entry))) r (facts (now (self .exit))) (room (now (self .exit)))) ⌝ }
+            → Put fact (facts (now (self .entry))) (spare (now (self .entry))) r (facts (now (self .exit))) (spare (now (self .exit)))) ⌝ }
         ensures outside { λ _. ⌜ outside (now (self .entry)) (now (self .exit)) ⌝ };
 
     fn take(&mut self, fact: Fact)
         ensures kept { λ _. ⌜ (sound (now (self .entry)) → sound (now (self .exit))) ⌝ }
         ensures does { λ _. ⌜ (sound (now (self .entry))
-            → Take fact (facts (now (self .entry))) (room (now (self .entry))) (facts (now (self .exit))) (room (now (self .exit)))) ⌝ }
+            → Take fact (facts (now (self .entry))) (spare (now (self .entry))) (facts (now (self .exit))) (spare (now (self .exit)))) ⌝ }
         ensures outside { λ _. ⌜ outside (now (self .entry)) (now (self .exit)) ⌝ };
 
     fn spare(&self) -> usize
-        ensures { λ r. ⌜ r ≡ room (now (self .entry)) ⌝ };
+        ensures { λ r. ⌜ r ≡ spare (now (self .entry)) ⌝ };
 
     fn empty(&self) -> bool
         ensures { λ r. ⌜ (sound (now (self .entry)) → Decides r (Empty (facts (now (self .entry))))) ⌝ };

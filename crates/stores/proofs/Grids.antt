@@ -18,7 +18,7 @@ use Rattle.facts.specs.Facts.{Not, Facts, In, with, is-fact, same-fact}
 use Rattle.facts.specs.Stores.{IsFact, Empty, Decides, Put, Take}
 use Rattle.facts.proofs.Sets.{same-eq, same-refl, with-other, not-in}
 use Rattle.stores.specs.Numbers.{bit-number}
-use Rattle.stores.specs.Bits.{bit-in, bit, enough, grid-facts, grid-room, tally, Counted, GridKeeps, Flipped}
+use Rattle.stores.specs.Bits.{bit-in, bit, enough, grid-facts, grid-spare, tally, Counted, GridKeeps, Flipped}
 use Rattle.stores.specs.Lent.{SameBeyond}
 use Rattle.stores.proofs.Onto.{number-below, number-apart, number-onto}
 use Rattle.stores.proofs.Flips.{none-set}
@@ -35,8 +35,8 @@ facts-narrow xs f n = and-right (is-fact f) _ (and-left (enough xs) (bit xs (bit
 pub facts-none : (xs : List ℕ) (f : Fact) → is-fact f ≡ false → grid-facts xs f ≡ false
 facts-none xs f n = and-left (is-fact f) (enough xs && bit xs (bit-number f)) n
 
-room-at : (xs : List ℕ) (n : ℕ) → enough xs ≡ true → grid-room xs n ≡ 177184 - n
-room-at xs n w = cond-true (enough xs) (177184 - n) 0 w
+spare-at : (xs : List ℕ) (n : ℕ) → enough xs ≡ true → grid-spare xs n ≡ 177184 - n
+spare-at xs n w = cond-true (enough xs) (177184 - n) 0 w
 
 count-at : (xs : List ℕ) (n : ℕ) → enough xs ≡ true → Counted xs n → n ≡ tally (bit xs) 177184
 count-at xs n w c = c ∙ cond-true (enough xs) (tally (bit xs) 177184) 0 w
@@ -76,10 +76,10 @@ module _ (xs ys : List ℕ) (f : Fact) (w : enough xs ≡ true) (long : length y
     out h = both-ways (grid-facts xs f) (facts-at xs f w b ∙ clear) h
 
     pub put-does : (n : ℕ) → n < 177184
-        → Put f (grid-facts xs) (grid-room xs n) (Ok tt) (grid-facts ys) (grid-room ys (n + 1))
+        → Put f (grid-facts xs) (grid-spare xs n) (Ok tt) (grid-facts ys) (grid-spare ys (n + 1))
     put-does n h =
-        let r = room-at xs n w in
-        let s = room-at ys (n + 1) still-wide in
+        let r = spare-at xs n w in
+        let s = spare-at ys (n + 1) still-wide in
         record {
           no-fact = λ d. absurd (d b);
           there = λ i. absurd (out i);
@@ -100,12 +100,12 @@ module _ (xs ys : List ℕ) (f : Fact) (w : enough xs ≡ true) (long : length y
         (λ k d. sym (bit-other k d)) in
         count-at xs n w c ∙ t
 
-    pub take-does : (n : ℕ) → Counted xs n → Take f (grid-facts xs) (grid-room xs n) (grid-facts ys) (grid-room ys (n - 1))
+    pub take-does : (n : ℕ) → Counted xs n → Take f (grid-facts xs) (grid-spare xs n) (grid-facts ys) (grid-spare ys (n - 1))
     take-does n c =
         let pos : 0 < n = let t = fewer n c in omega (arith, t) in
         let most : n ≤ 177184 = omega (arith, count-at xs n w c, tally-within (bit xs) 177184) in
-        let r = room-at xs n w in
-        let s = room-at ys (n - 1) still-wide in
+        let r = spare-at xs n w in
+        let s = spare-at ys (n - 1) still-wide in
         record {
           absent = λ d. absurd (d (facts-at xs f w b ∙ set));
           leaves = λ _. (flip-facts ∙ ap (with (grid-facts xs) f) (not-from-true _ set), omega (arith, r, s));
@@ -136,19 +136,19 @@ module _ (xs ys : List ℕ) (f : Fact) (i n m : ℕ) (e : Some i ≡ cond (is-fa
   bit-told b h = ap (bit xs) (number-told f i e .1) ∙ sym h
 
   pub flipped-in : false ≡ bit xs i → n < 177184 → Counted xs n
-      → Counted ys (m + 1) × Put f (grid-facts xs) (grid-room xs n) (Ok tt) (grid-facts ys) (grid-room ys (m + 1))
+      → Counted ys (m + 1) × Put f (grid-facts xs) (grid-spare xs n) (Ok tt) (grid-facts ys) (grid-spare ys (m + 1))
   flipped-in clear h c =
       let b = number-told f i e .0 in
       let out = bit-told false clear in
-      subst (λ (k : ℕ). Counted ys (k + 1) × Put f (grid-facts xs) (grid-room xs n) (Ok tt) (grid-facts ys) (grid-room ys (k + 1)))
+      subst (λ (k : ℕ). Counted ys (k + 1) × Put f (grid-facts xs) (grid-spare xs n) (Ok tt) (grid-facts ys) (grid-spare ys (k + 1)))
       (sym same) (put-counted xs ys f w long b at-number out n c, put-does xs ys f w long b at-number out n h)
 
   pub flipped-out : true ≡ bit xs i → Counted xs n
-      → Counted ys (m - 1) × Take f (grid-facts xs) (grid-room xs n) (grid-facts ys) (grid-room ys (m - 1))
+      → Counted ys (m - 1) × Take f (grid-facts xs) (grid-spare xs n) (grid-facts ys) (grid-spare ys (m - 1))
   flipped-out set c =
       let b = number-told f i e .0 in
       let there = bit-told true set in
-      subst (λ (k : ℕ). Counted ys (k - 1) × Take f (grid-facts xs) (grid-room xs n) (grid-facts ys) (grid-room ys (k - 1)))
+      subst (λ (k : ℕ). Counted ys (k - 1) × Take f (grid-facts xs) (grid-spare xs n) (grid-facts ys) (grid-spare ys (k - 1)))
       (sym same) (take-counted xs ys f w long b at-number there n c, take-does xs ys f w long b at-number there n c)
 
 -- a grid without bits that are set is empty, and a grid is empty where its count is 0

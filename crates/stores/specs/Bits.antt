@@ -27,8 +27,8 @@ abbrev pub grid-facts : List ℕ → Facts
 grid-facts xs f = is-fact f && (enough xs && bit xs (bit-number f))
 
 -- the spare of a grid that has n facts
-abbrev pub grid-room : List ℕ → ℕ → ℕ
-grid-room xs n = cond (enough xs) (177184 - n) 0
+abbrev pub grid-spare : List ℕ → ℕ → ℕ
+grid-spare xs n = cond (enough xs) (177184 - n) 0
 
 -- how many of the numbers below n pass the test
 unfoldable pub tally : (ℕ → Bool) → ℕ → ℕ

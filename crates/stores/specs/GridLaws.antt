@@ -11,12 +11,12 @@ use Rattle.facts.specs.Facts.{is-fact}
 use Rattle.facts.specs.Stores.{Only}
 use Rattle.stores.specs.LentLaws.{beyond-same, beyond-on}
 use Rattle.stores.specs.Numbers.{bit-number}
-use Rattle.stores.specs.Bits.{bit, enough, grid-facts, grid-room, GridKeeps}
+use Rattle.stores.specs.Bits.{bit, enough, grid-facts, grid-spare, GridKeeps}
 
 pub grid-only : (xs : List ℕ) → Only (grid-facts xs)
 grid-only xs f e = and-parts (is-fact f) (enough xs && bit xs (bit-number f)) e .0
 
-pub grid-bounded : (xs : List ℕ) (n : ℕ) → grid-room xs n ≤ 177184
+pub grid-bounded : (xs : List ℕ) (n : ℕ) → grid-spare xs n ≤ 177184
 grid-bounded xs n = cond-both (enough xs) (177184 - n) 0 (λ x. x ≤ 177184) (λ _. omega arith) (λ _. omega arith)
 
 pub grid-same : (s : RefT (List ℕ)) → GridKeeps s s

@@ -8,7 +8,7 @@ ghost use lib.ListN.{length, getD};
 ghost use denote.Ref.{now};
 ghost use Rattle.facts.specs.Facts.{Facts};
 ghost use Rattle.facts.specs.Stores.{Empty};
-ghost use Rattle.stores.specs.Bits.{bit-in, bit, enough, grid-facts, grid-room, Counted, Flipped, GridKeeps};
+ghost use Rattle.stores.specs.Bits.{bit-in, bit, enough, grid-facts, grid-spare, Counted, Flipped, GridKeeps};
 ghost use Rattle.stores.specs.Lent.{SameBeyond};
 ghost use Rattle.stores.specs.GridLaws.{grid-only, grid-bounded, grid-same, grid-on};
 use crate::numbering::bit_number;
@@ -55,7 +55,7 @@ impl<'a> Grid<'a> {
     pub fn new(bytes: &'a mut [u8]) -> Grid<'a>
         ensures sound { λ r. ⌜ Counted (now (r .bytes)) (r .count) ⌝ }
         ensures empty { λ r. ⌜ Empty (grid-facts (now (r .bytes))) ⌝ }
-        ensures room { λ r. ⌜ grid-room (now (r .bytes)) (r .count) ≡ cond (enough (now (bytes .entry))) 177184 0 ⌝ }
+        ensures spare { λ r. ⌜ grid-spare (now (r .bytes)) (r .count) ≡ cond (enough (now (bytes .entry))) 177184 0 ⌝ }
         ensures outside { λ r. ⌜ GridKeeps (bytes .entry) (r .bytes) ⌝ }
     {
         if bytes.len() >= BYTES {
@@ -95,7 +95,7 @@ pub impl<'a> Store for Grid<'a> as GridStore {
 
     ghost facts = { λ g. grid-facts (now (g .bytes)) };
 
-    ghost room = { λ g. grid-room (now (g .bytes)) (g .count) };
+    ghost spare = { λ g. grid-spare (now (g .bytes)) (g .count) };
 
     ghost sound = { λ g. Counted (now (g .bytes)) (g .count) };
 

@@ -23,7 +23,7 @@ impl<'a> List<'a> {
     pub fn new(places: &'a mut [Fact]) -> List<'a>
         ensures sound { λ r. ⌜ Tidy (now (r .places)) (r .used) ⌝ }
         ensures empty { λ r. ⌜ Empty (among (now (r .places)) (r .used)) ⌝ }
-        ensures room { λ r. ⌜ usable (now (r .places)) - r .used ≡ min (length (now (places .entry))) 4096 ⌝ }
+        ensures spare { λ r. ⌜ usable (now (r .places)) - r .used ≡ min (length (now (places .entry))) 4096 ⌝ }
         ensures named { λ r. ⌜ name (r .places) ≡ name (places .entry) ⌝ }
         ensures untouched { λ r. ⌜ now (r .places) ≡ now (places .entry) ⌝ }
     {
@@ -58,7 +58,7 @@ pub impl<'a> Store for List<'a> as ListStore {
 
     ghost facts = { λ s. among (now (s .places)) (s .used) };
 
-    ghost room = { λ s. usable (now (s .places)) - s .used };
+    ghost spare = { λ s. usable (now (s .places)) - s .used };
 
     ghost sound = { λ s. Tidy (now (s .places)) (s .used) };
 

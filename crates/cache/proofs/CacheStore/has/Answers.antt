@@ -17,7 +17,7 @@ returns g c =
           (n .below) (n .slots) (n .all) (e .kept (h .lower))
           (e .facts ∙ sym (with-stays m (c .args .fact) b (sym (e .value (h .lower))))) h;
       facts = ap (st .facts) (n .below) ∙ e .facts;
-      room = ap (st .room) (n .below) ∙ e .room;
+      spare = ap (st .spare) (n .below) ∙ e .spare;
       outside = subst (st .outside (a .below)) (sym (n .below)) (e .outside);
       remembered = noted-recalled (a .slots) (c .note .last .self .slots) (c .args .fact) b (n .slots) (n .all);
       others = noted-others (a .slots) (c .note .last .self .slots) (c .args .fact) b (n .slots);

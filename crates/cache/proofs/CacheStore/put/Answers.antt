@@ -26,12 +26,12 @@ returns-in-Break-put g c =
       kept = λ h. record {
         lower = e .kept (h .lower);
         honest = subst (λ (m : Facts). Honest m (a .slots))
-            (sym (put-refused f (st .facts (a .below)) (st .room (a .below)) (st .facts s) (st .room s) why (e .does (h .lower)) .0))
+            (sym (put-refused f (st .facts (a .below)) (st .spare (a .below)) (st .facts s) (st .spare s) why (e .does (h .lower)) .0))
             (h .honest);
       };
       does = λ h. subst
           (λ (x : Result (Unit {0}) Refusal).
-          Put f (st .facts (a .below)) (st .room (a .below)) x (st .facts s) (st .room s))
+          Put f (st .facts (a .below)) (st .spare (a .below)) x (st .facts s) (st .spare s))
           (sym r) (e .does (h .lower));
       outside = e .outside;
       remembered = λ o. ok-not-err {P = recalled (a .slots) f ≡ Some true} why (sym o ∙ r);
@@ -49,8 +49,8 @@ returns g c =
     record {
       kept = λ h. faithful-noted (st .sound) (st .facts) a (c .note .last .self) s f true
           (n .below) (n .slots) (n .all) (e .kept (h .lower))
-          (put-accepted f (st .facts (a .below)) (st .room (a .below)) (st .facts s) (st .room s) (e .does (h .lower))) h;
-      does = λ h. subst (λ (x : g .S .Denot). Put f (st .facts (a .below)) (st .room (a .below)) (Ok tt) (st .facts x) (st .room x))
+          (put-accepted f (st .facts (a .below)) (st .spare (a .below)) (st .facts s) (st .spare s) (e .does (h .lower))) h;
+      does = λ h. subst (λ (x : g .S .Denot). Put f (st .facts (a .below)) (st .spare (a .below)) (Ok tt) (st .facts x) (st .spare x))
           (sym (n .below)) (e .does (h .lower));
       outside = subst (st .outside (a .below)) (sym (n .below)) (e .outside);
       remembered = λ _. noted-recalled (a .slots) (c .note .last .self .slots) f true (n .slots) (n .all);

@@ -16,8 +16,8 @@ returns g c =
     record {
       kept = λ h. faithful-noted (st .sound) (st .facts) a (c .note .last .self) s f false
           (n .below) (n .slots) (n .all) (e .kept (h .lower))
-          (take-left f (st .facts (a .below)) (st .room (a .below)) (st .facts s) (st .room s) (e .does (h .lower))) h;
-      does = λ h. subst (λ (x : g .S .Denot). Take f (st .facts (a .below)) (st .room (a .below)) (st .facts x) (st .room x))
+          (take-left f (st .facts (a .below)) (st .spare (a .below)) (st .facts s) (st .spare s) (e .does (h .lower))) h;
+      does = λ h. subst (λ (x : g .S .Denot). Take f (st .facts (a .below)) (st .spare (a .below)) (st .facts x) (st .spare x))
           (sym (n .below)) (e .does (h .lower));
       outside = subst (st .outside (a .below)) (sym (n .below)) (e .outside);
       remembered = noted-recalled (a .slots) (c .note .last .self .slots) f false (n .slots) (n .all);

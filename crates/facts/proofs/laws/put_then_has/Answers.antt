@@ -9,5 +9,5 @@ returns g c = record {
   kept = λ h. c .has-there .ensures .kept (c .put-answer .ensures .kept h);
   told = λ h. c .has-there .ensures .value (c .put-answer .ensures .kept h)
       ∙ put-has _ _ _ _ _ _ (g .S·Store .only (c .args .store .now) h) (c .put-answer .ensures .does h);
-  does = λ h. put-stays _ _ _ _ _ _ _ _ (c .put-answer .ensures .does h) (c .has-there .ensures .facts, c .has-there .ensures .room);
+  does = λ h. put-stays _ _ _ _ _ _ _ _ (c .put-answer .ensures .does h) (c .has-there .ensures .facts, c .has-there .ensures .spare);
 }

@@ -11,5 +11,5 @@ returns g c = record {
   told = λ h. c .has .ensures .value (c .take .ensures .kept h)
       ∙ ap (λ (m : Facts). m (c .args .removed)) (take-left _ _ _ _ _ (c .take .ensures .does h))
       ∙ with-here (g .S·Store .facts (c .args .store .now)) (c .args .removed) false;
-  does = λ h. take-stays _ _ _ _ _ _ _ (c .take .ensures .does h) (c .has .ensures .facts, c .has .ensures .room);
+  does = λ h. take-stays _ _ _ _ _ _ _ (c .take .ensures .does h) (c .has .ensures .facts, c .has .ensures .spare);
 }

@@ -24,7 +24,7 @@ returns c =
     record {
       sound = blank-counted ys blank;
       empty = blank-empty ys blank;
-      room = ap (λ (n : ℕ). cond (leb 22148 n) 177184 0) (c .if-bytes-ge-BYTES .kept .bytes);
+      spare = ap (λ (n : ℕ). cond (leb 22148 n) 177184 0) (c .if-bytes-ge-BYTES .kept .bytes);
       outside = (
         record {
           named = refl;

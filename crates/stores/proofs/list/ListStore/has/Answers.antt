@@ -8,6 +8,6 @@ returns c = record {
   value = λ h. c .is-some .ensures ∙ found-told _ _ _ _ h (c .find .ensures);
   kept = λ h. h;
   facts = refl;
-  room = refl;
+  spare = refl;
   outside = beyond-same 4096 (c .args .self .now .places);
 }
