@@ -76,7 +76,8 @@ fact k a b c = record { kind = k; a = a; b = b; c = c }
 
 -- whether the entries of a kind are in their ranges
 abbrev pub in-ranges : Kind → Fact → Bool
-in-ranges k f = ltb (f .a) (size (entries k .0)) && (ltb (f .b) (size (entries k .1)) && ltb (f .c) (size (entries k .2)))
+in-ranges k f =
+    ltb (f .a) (size (entries k .0)) && (ltb (f .b) (size (entries k .1)) && ltb (f .c) (size (entries k .2)))
 
 -- whether four numbers are a fact: the first is a kind's, and the entries are in its ranges
 abbrev pub in-ranges-of : Option Kind → Fact → Bool

@@ -35,7 +35,8 @@ abbrev pub Stays : Facts → ℕ → Facts → ℕ → Type 0
 Stays m n m′ n′ = (m′ ≡ m) × (n′ ≡ n)
 
 -- a put of f to the set m with the spare n: what it answers, and the set and the spare after it
-pub record Put (f : Fact) (m : Facts) (n : ℕ) (r : Result (Unit {0}) Refusal) (m′ : Facts) (n′ : ℕ) : Type 0 where
+pub record Put (f : Fact) (m : Facts) (n : ℕ) (r : Result (Unit {0}) Refusal) (m′ : Facts) (n′ : ℕ)
+    : Type 0 where
   -- four numbers that are no fact are refused
   pub no-fact : Not (IsFact f) → (r ≡ Err NoFact) × Stays m n m′ n′
   -- a fact that is there is accepted

@@ -15,7 +15,8 @@ pub fn put_then_has<S: Store>(store: &mut S, added: Fact) -> (Result<(), Refusal
     ensures outside { λ _. ⌜ outside (now (store .entry)) (now (store .exit)) ⌝ }
     ensures told { λ r. ⌜ (sound (now (store .entry)) → r .1 ≡ isOk (r .0)) ⌝ }
     ensures does { λ r. ⌜ (sound (now (store .entry))
-        → Put added (facts (now (store .entry))) (spare (now (store .entry))) (r .0) (facts (now (store .exit))) (spare (now (store .exit)))) ⌝ }
+        → Put added (facts (now (store .entry))) (spare (now (store .entry))) (r .0)
+        (facts (now (store .exit))) (spare (now (store .exit)))) ⌝ }
 {
     let answer = store.put(added);
     let there = store.has(added);
@@ -28,7 +29,8 @@ pub fn take_then_has<S: Store>(store: &mut S, removed: Fact) -> bool
     ensures outside { λ _. ⌜ outside (now (store .entry)) (now (store .exit)) ⌝ }
     ensures told { λ r. ⌜ (sound (now (store .entry)) → r ≡ false) ⌝ }
     ensures does { λ _. ⌜ (sound (now (store .entry))
-        → Take removed (facts (now (store .entry))) (spare (now (store .entry))) (facts (now (store .exit))) (spare (now (store .exit)))) ⌝ }
+        → Take removed (facts (now (store .entry))) (spare (now (store .entry)))
+        (facts (now (store .exit))) (spare (now (store .exit)))) ⌝ }
 {
     store.take(removed);
     store.has(removed)
@@ -39,7 +41,8 @@ pub fn put_twice<S: Store>(store: &mut S, repeated: Fact) -> Result<(), Refusal>
     ensures kept { λ _. ⌜ (sound (now (store .entry)) → sound (now (store .exit))) ⌝ }
     ensures outside { λ _. ⌜ outside (now (store .entry)) (now (store .exit)) ⌝ }
     ensures does { λ r. ⌜ (sound (now (store .entry))
-        → Put repeated (facts (now (store .entry))) (spare (now (store .entry))) r (facts (now (store .exit))) (spare (now (store .exit)))) ⌝ }
+        → Put repeated (facts (now (store .entry))) (spare (now (store .entry))) r
+        (facts (now (store .exit))) (spare (now (store .exit)))) ⌝ }
 {
     let _ = store.put(repeated);
     store.put(repeated)
@@ -50,7 +53,8 @@ pub fn put_then_take<S: Store>(store: &mut S, passing: Fact)
     ensures kept { λ _. ⌜ (sound (now (store .entry)) → sound (now (store .exit))) ⌝ }
     ensures outside { λ _. ⌜ outside (now (store .entry)) (now (store .exit)) ⌝ }
     ensures does { λ _. ⌜ (sound (now (store .entry))
-        → Take passing (facts (now (store .entry))) (spare (now (store .entry))) (facts (now (store .exit))) (spare (now (store .exit)))) ⌝ }
+        → Take passing (facts (now (store .entry))) (spare (now (store .entry)))
+        (facts (now (store .exit))) (spare (now (store .exit)))) ⌝ }
 {
     let _ = store.put(passing);
     store.take(passing);

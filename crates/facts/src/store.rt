@@ -11,12 +11,15 @@ pub trait Store {
     // The most facts that a store of this kind can take.
     const MOST: usize;
 
+    // The same number, for contracts, which cannot name the constant.
     ghost limit: { ℕ };
 
+    // The set, and the spare.
     ghost facts: { Self → Facts };
 
     ghost spare: { Self → ℕ };
 
+    // The store's memory is in good order.
     ghost sound: { Self → Type 0 };
 
     // Of two states: what lies outside the store's part of the caller's memory is the same in both.
@@ -46,13 +49,15 @@ pub trait Store {
     fn put(&mut self, fact: Fact) -> Result<(), Refusal>
         ensures kept { λ _. ⌜ (sound (now (self .entry)) → sound (now (self .exit))) ⌝ }
         ensures does { λ r. ⌜ (sound (now (self .entry))
-            → Put fact (facts (now (self .entry))) (spare (now (self .entry))) r (facts (now (self .exit))) (spare (now (self .exit)))) ⌝ }
+            → Put fact (facts (now (self .entry))) (spare (now (self .entry))) r
+            (facts (now (self .exit))) (spare (now (self .exit)))) ⌝ }
         ensures outside { λ _. ⌜ outside (now (self .entry)) (now (self .exit)) ⌝ };
 
     fn take(&mut self, fact: Fact)
         ensures kept { λ _. ⌜ (sound (now (self .entry)) → sound (now (self .exit))) ⌝ }
         ensures does { λ _. ⌜ (sound (now (self .entry))
-            → Take fact (facts (now (self .entry))) (spare (now (self .entry))) (facts (now (self .exit))) (spare (now (self .exit)))) ⌝ }
+            → Take fact (facts (now (self .entry))) (spare (now (self .entry)))
+            (facts (now (self .exit))) (spare (now (self .exit)))) ⌝ }
         ensures outside { λ _. ⌜ outside (now (self .entry)) (now (self .exit)) ⌝ };
 
     fn spare(&self) -> usize

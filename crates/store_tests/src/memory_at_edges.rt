@@ -54,13 +54,20 @@ fn put_and_let_go(bytes: &mut [u8], fact: Fact) -> bool
     grid.put(fact).is_ok()
 }
 
+// The grid's first byte and its last, and the byte behind it.
+fn edges(bytes: &[u8]) -> [Option<u8>; 3] {
+    [
+        bytes.get(0).copied(),
+        bytes.get(22_147).copied(),
+        bytes.get(22_148).copied(),
+    ]
+}
+
 #[test]
 fn a_grid_ends_at_its_last_byte(rt: LibcRuntime) -> Result<(), Fail> {
     let mut bytes = vec![in rt.alloc(); GUARD; 22_149]?;
     check(put_and_let_go(bytes.as_mut_slice(), LAST))?;
-    check_eq(bytes.get(0).copied(), Some(0))?;
-    check_eq(bytes.get(22_147).copied(), Some(0x80))?;
-    check_eq(bytes.get(22_148).copied(), Some(GUARD))
+    check_eq(edges(&bytes), [Some(0), Some(0x80), Some(GUARD)])
 }
 
 #[test]
@@ -70,11 +77,11 @@ fn a_grid_under_a_cache_ends_there_too(rt: LibcRuntime) -> Result<(), Fail> {
     let spare = cache.spare();
     let answers = [put(&mut cache, LAST), put(&mut cache, FIRST)];
     cache.take(LAST);
-    check_eq([spare, cache.spare()], [177_184, 177_183])?;
-    check_eq(answers, [0, 0])?;
-    check_eq(bytes.get(0).copied(), Some(1))?;
-    check_eq(bytes.get(22_147).copied(), Some(0))?;
-    check_eq(bytes.get(22_148).copied(), Some(GUARD))
+    check_eq(
+        ([spare, cache.spare()], answers),
+        ([177_184, 177_183], [0, 0]),
+    )?;
+    check_eq(edges(&bytes), [Some(1), Some(0), Some(GUARD)])
 }
 
 #[test]
@@ -83,8 +90,10 @@ fn a_grid_of_fewer_bytes_writes_nothing(rt: LibcRuntime) -> Result<(), Fail> {
     let mut grid = Grid::new(bytes.as_mut_slice());
     let answers = [put(&mut grid, FIRST), put(&mut grid, NO_FACT)];
     grid.take(FIRST);
-    check(grid.empty() && grid.spare() == 0 && !grid.has(FIRST))?;
-    check_eq(answers, [23, 1])?;
+    check_eq(
+        (answers, grid.spare(), grid.empty(), grid.has(FIRST)),
+        ([23, 1], 0, true, false),
+    )?;
     let untouched = vec![in rt.alloc(); GUARD; 22_147]?;
     check(bytes == untouched)
 }
@@ -99,10 +108,10 @@ fn a_full_list_refuses_and_a_take_makes_room() -> Result<(), Fail> {
         put(&mut list, LAST),
         put(&mut list, FIRST),
     ];
-    check_eq(full, [0, 0, 23, 0])?;
     list.take(FIRST);
-    check_eq(list.spare(), 1)?;
-    check_eq([put(&mut list, LAST), put(&mut list, FIRST)], [0, 23])?;
+    let spare = list.spare();
+    let again = [put(&mut list, LAST), put(&mut list, FIRST)];
+    check_eq((full, spare, again), ([0, 0, 23, 0], 1, [0, 23]))?;
     check_eq(
         [
             has(&mut list, FIRST),
@@ -131,14 +140,19 @@ fn a_list_uses_4096_places(rt: LibcRuntime) -> Result<(), Fail> {
     for n in 0..4_096 {
         let _ = put(&mut list, taken(n));
     }
-    check_eq([spare, list.spare()], [4_096, 0])?;
     check_eq(
-        [put(&mut list, FIRST), put(&mut list, taken(4_095))],
-        [23, 0],
+        (
+            [spare, list.spare()],
+            [put(&mut list, FIRST), put(&mut list, taken(4_095))],
+        ),
+        ([4_096, 0], [23, 0]),
     )?;
-    check_eq(places.get(4_095).copied(), Some(taken(4_095)))?;
-    check_eq(places.get(4_096).copied(), Some(LAST))?;
-    check_eq(places.get(4_097).copied(), Some(LAST))
+    let ends = [
+        places.get(4_095).copied(),
+        places.get(4_096).copied(),
+        places.get(4_097).copied(),
+    ];
+    check_eq(ends, [Some(taken(4_095)), Some(LAST), Some(LAST)])
 }
 
 #[test]
@@ -146,27 +160,23 @@ fn a_cache_remembers_what_it_was_asked() -> Result<(), Fail> {
     let mut places = [NO_FACT; 2];
     let mut cache = Cache::new(List::new(&mut places));
     let unasked = remembers(&cache, FIRST);
-    check_eq(
-        [unasked, has(&mut cache, FIRST), remembers(&cache, FIRST)],
-        ['-', 'n', 'n'],
-    )?;
-    check_eq(put(&mut cache, FIRST), 0)?;
-    check_eq(
-        [
-            remembers(&cache, FIRST),
-            has(&mut cache, BESIDE),
-            remembers(&cache, FIRST),
-        ],
-        ['y', 'n', '-'],
-    )?;
-    check_eq(
-        [has(&mut cache, FIRST), remembers(&cache, BESIDE)],
-        ['y', '-'],
-    )?;
+    let absent = [unasked, has(&mut cache, FIRST), remembers(&cache, FIRST)];
+    let accepted = put(&mut cache, FIRST);
+    let there = [
+        remembers(&cache, FIRST),
+        has(&mut cache, BESIDE),
+        remembers(&cache, FIRST),
+        has(&mut cache, FIRST),
+    ];
     cache.take(FIRST);
+    let gone = [
+        remembers(&cache, FIRST),
+        has(&mut cache, FIRST),
+        remembers(&cache, BESIDE),
+    ];
     check_eq(
-        [remembers(&cache, FIRST), has(&mut cache, FIRST)],
-        ['n', 'n'],
+        (absent, accepted, there, gone),
+        (['-', 'n', 'n'], 0, ['y', 'n', '-', 'y'], ['n', 'n', '-']),
     )
 }
 
@@ -174,21 +184,21 @@ fn a_cache_remembers_what_it_was_asked() -> Result<(), Fail> {
 fn a_refused_put_is_not_remembered_as_there() -> Result<(), Fail> {
     let mut places = [NO_FACT; 1];
     let mut cache = Cache::new(Cache::new(List::new(&mut places)));
-    let answers = [
+    let refused = [
         put(&mut cache, LAST),
         put(&mut cache, FIRST),
         put(&mut cache, NO_FACT),
     ];
-    check_eq(answers, [0, 23, 1])?;
-    check_eq(
-        [
-            remembers(&cache, FIRST),
-            has(&mut cache, FIRST),
-            remembers(&cache, FIRST),
-        ],
-        ['-', 'n', 'n'],
-    )?;
+    let absent = [
+        remembers(&cache, FIRST),
+        has(&mut cache, FIRST),
+        remembers(&cache, FIRST),
+    ];
     cache.take(LAST);
-    check_eq(put(&mut cache, FIRST), 0)?;
-    check_eq([has(&mut cache, FIRST), has(&mut cache, LAST)], ['y', 'n'])
+    let accepted = put(&mut cache, FIRST);
+    let there = [has(&mut cache, FIRST), has(&mut cache, LAST)];
+    check_eq(
+        (refused, absent, accepted, there),
+        ([0, 23, 1], ['-', 'n', 'n'], 0, ['y', 'n']),
+    )
 }

@@ -39,36 +39,61 @@ fn most_of<S: Store>() -> (usize, usize) {
     (S::MOST, S::most_facts())
 }
 
-// What every store does with one fact, from empty and back.
-fn obeys<S: Store>(store: &mut S) -> Result<(), Fail> {
+// What every store does with one fact, from empty and back: as it should, if each answer is true.
+fn obeys<S: Store>(store: &mut S) -> [bool; 9] {
     let spare = store.spare();
-    let (answer, there) = put_then_has(store, FINISHED);
-    check(answer.is_ok() && there && put_twice(store, FINISHED).is_ok())?;
-    check(!store.empty() && store.spare().saturating_add(1) == spare)?;
-    let (answer, there) = put_then_has(store, NO_FACT);
+    let (put, there) = put_then_has(store, FINISHED);
+    let twice = put_twice(store, FINISHED);
+    let one_less = store.spare().saturating_add(1) == spare;
+    let (no_fact, never) = put_then_has(store, NO_FACT);
     put_then_take(store, ASSIGNED);
-    check(answer.is_err() && !there && store.spare().saturating_add(1) == spare)?;
-    check(store.has(FINISHED) && !take_then_has(store, FINISHED))?;
-    check(store.empty() && spare_within(store) == spare && spare <= S::MOST)
+    let still = store.has(FINISHED) && store.spare() < spare;
+    let gone = !take_then_has(store, FINISHED);
+    let back = store.empty() && spare_within(store) == spare;
+    [
+        put.is_ok(),
+        there,
+        twice.is_ok(),
+        one_less,
+        no_fact.is_err(),
+        !never,
+        still,
+        gone,
+        back,
+    ]
 }
 
 #[test]
 fn most_is_the_kinds_own() -> Result<(), Fail> {
-    check_eq(most_of::<Grid>(), (177_184, 177_184))?;
-    check_eq(most_of::<List>(), (4_096, 4_096))?;
-    check_eq(most_of::<Cache<Grid>>(), (177_184, 177_184))?;
-    check_eq(most_of::<Cache<List>>(), (4_096, 4_096))?;
-    check_eq(most_of::<Cache<Cache<Grid>>>(), (177_184, 177_184))?;
-    check_eq(most_of::<Cache<Cache<List>>>(), (4_096, 4_096))
+    check_eq(
+        [most_of::<Grid>(), most_of::<List>()],
+        [(177_184, 177_184), (4_096, 4_096)],
+    )?;
+    check_eq(
+        [most_of::<Cache<Grid>>(), most_of::<Cache<List>>()],
+        [(177_184, 177_184), (4_096, 4_096)],
+    )?;
+    check_eq(
+        [
+            most_of::<Cache<Cache<Grid>>>(),
+            most_of::<Cache<Cache<List>>>(),
+        ],
+        [(177_184, 177_184), (4_096, 4_096)],
+    )
 }
 
 #[test]
 fn every_store_obeys(rt: LibcRuntime) -> Result<(), Fail> {
     let mut bytes = vec![in rt.alloc(); 0u8; 22_148]?;
     let mut places = [NO_FACT; 9];
-    obeys(&mut Grid::new(bytes.as_mut_slice()))?;
-    obeys(&mut Cache::new(Grid::new(bytes.as_mut_slice())))?;
-    obeys(&mut List::new(&mut places))?;
-    obeys(&mut Cache::new(List::new(&mut places)))?;
-    obeys(&mut Cache::new(Cache::new(List::new(&mut places))))
+    check_eq(obeys(&mut Grid::new(bytes.as_mut_slice())), [true; 9]).note("grid")?;
+    check_eq(
+        obeys(&mut Cache::new(Grid::new(bytes.as_mut_slice()))),
+        [true; 9],
+    ).note("grid under a cache")?;
+    check_eq(obeys(&mut List::new(&mut places)), [true; 9]).note("list")?;
+    check_eq(
+        obeys(&mut Cache::new(Cache::new(List::new(&mut places)))),
+        [true; 9],
+    ).note("list under two caches")
 }

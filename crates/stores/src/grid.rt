@@ -35,7 +35,8 @@ fn is_set(byte: u8, place: usize) -> bool
 
 fn flipped(byte: u8, place: usize) -> u8
     requires { ⌜ place < 8 ⌝ }
-    ensures { λ r. ⌜ ((k : ℕ) → k < 8 → bit-in r k ≡ cond (eqb k place) (not (bit-in byte place)) (bit-in byte k)) ⌝ }
+    ensures { λ r. ⌜ ((k : ℕ) → k < 8
+        → bit-in r k ≡ cond (eqb k place) (not (bit-in byte place)) (bit-in byte k)) ⌝ }
 {
     byte ^ (1 << place)
 }
@@ -55,7 +56,8 @@ impl<'a> Grid<'a> {
     pub fn new(bytes: &'a mut [u8]) -> Grid<'a>
         ensures sound { λ r. ⌜ Counted (now (r .bytes)) (r .count) ⌝ }
         ensures empty { λ r. ⌜ Empty (grid-facts (now (r .bytes))) ⌝ }
-        ensures spare { λ r. ⌜ grid-spare (now (r .bytes)) (r .count) ≡ cond (enough (now (bytes .entry))) 177184 0 ⌝ }
+        ensures spare { λ r. ⌜ grid-spare (now (r .bytes)) (r .count)
+            ≡ cond (enough (now (bytes .entry))) 177184 0 ⌝ }
         ensures outside { λ r. ⌜ GridKeeps (bytes .entry) (r .bytes) ⌝ }
     {
         if bytes.len() >= BYTES {
