@@ -1,5 +1,4 @@
 // One call of a store as a value, and what came of it.
-ghost use mathlib.Core.Path.{_≡_};
 ghost use Rattle.book_grid.specs.Steps.{Does};
 use crate::words::InWords;
 use crate::words::InWordsDisplay;

@@ -1,8 +1,7 @@
 use mathlib.Core.Path.{_≡_, refl, sym, ap, _∙_}
-use mathlib.Core.Bool.{Bool, true, false, cond, _&&_}
-use mathlib.Core.Logic.{_⊎_, inl, inr}
-use Prim.Native.Nat.{ℕ, _<_}
-use native.Mathlib.Omega.{arith}
+use mathlib.Core.Bool.{true, false, cond}
+use mathlib.Core.Logic.{inl, inr}
+use Prim.Native.Nat.{_<_}
 use lib.Dec.{ltb}
 use Rattle.std.proofs.shelf.Tests.{both-ways, and-parts, ltb-true, cases-bool, cond-true, cond-false}
 use Rattle.std.specs.Options.{isSome}

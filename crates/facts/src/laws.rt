@@ -1,9 +1,8 @@
 // What follows for every store from the promise alone, with no look at how a store is made.
 ghost use mathlib.Core.Path.{_≡_};
-ghost use mathlib.Core.Bool.{true, false};
-ghost use Prim.Native.Nat.{ℕ, _≤_};
+ghost use mathlib.Core.Bool.{false};
+ghost use Prim.Native.Nat.{_≤_};
 ghost use Rattle.std.specs.Results.{isOk};
-ghost use Rattle.facts.specs.Facts.{Facts};
 ghost use Rattle.facts.specs.Stores.{Put, Take};
 use crate::fact::Fact;
 use crate::refusal::Refusal;

@@ -1,20 +1,18 @@
 use mathlib.Core.Path.{_≡_, refl, sym, ap, subst, _∙_, fun-ext}
 use mathlib.Core.Bool.{Bool, true, false, not, cond, _&&_}
 use mathlib.Core.List.{List}
-use mathlib.Core.Logic.{_⊎_, inl, inr, _≢_}
+use mathlib.Core.Logic.{inl, inr, _≢_}
 use Prim.Native.Nat.{ℕ, _+_, _-_, _/_, _%_, _<_, _≤_}
 use native.Mathlib.Omega.{arith}
 use lib.Dec.{eqb, leb}
 use lib.ListN.{length, getD}
 use denote.Ref.{RefT, now}
-use Rattle.std.proofs.shelf.Tests.{and-from, and-left, and-right, both-ways, cases-bool, cases-eq, cond-true, cond-false}
-use Rattle.std.proofs.shelf.Tests.{eq-eqb, ne-eqb, le-leb, leb-true, leb-false, lt-leb, not-from-true, not-from-false}
-use Rattle.std.specs.Options.{isSome}
-use Rattle.std.specs.declared.option.Option.{Option}
+use Rattle.std.proofs.shelf.Tests.{and-left, and-right, both-ways, cases-bool, cases-eq, cond-true, cond-false}
+use Rattle.std.proofs.shelf.Tests.{eq-eqb, ne-eqb, leb-true, not-from-true, not-from-false}
 use Rattle.std.specs.declared.option.Option.the-variants.{Some, None}
-use Rattle.std.specs.declared.result.Result.the-variants.{Ok, Err}
+use Rattle.std.specs.declared.result.Result.the-variants.{Ok}
 use Rattle.facts.specs.declared.fact.Fact.{Fact}
-use Rattle.facts.specs.Facts.{Not, Facts, In, with, is-fact, same-fact}
+use Rattle.facts.specs.Facts.{Not, In, with, is-fact, same-fact}
 use Rattle.facts.specs.Stores.{IsFact, Empty, Decides, Put, Take}
 use Rattle.facts.proofs.Sets.{same-eq, same-refl, with-other, not-in}
 use Rattle.stores.specs.Numbers.{bit-number}

@@ -1,13 +1,12 @@
 use mathlib.Core.Path.{_≡_, refl, sym, ap, subst, _∙_}
-use mathlib.Core.Bool.{Bool, true, false, cond, _&&_, _||_}
+use mathlib.Core.Bool.{Bool, true, cond, _&&_, _||_}
 use mathlib.Core.Logic.{_⊎_, inl, inr}
 use Prim.Native.Nat.{ℕ, _+_, _*_, _-_, _/_, _%_, _<_, _≤_}
 use native.Mathlib.Omega.{arith}
-use native.Mathlib.Nat.{add-assoc}
 use lib.Arith.{digits-lt, digits-div, digits-mod}
-use lib.Dec.{eqb, leb, ltb}
+use lib.Dec.{eqb, leb}
 use Rattle.std.proofs.shelf.Bits.{div-add-mod', div-below, mod-below}
-use Rattle.std.proofs.shelf.Tests.{and-parts, and-from, or-cases, eqb-true, leb-true, ltb-true, lt-ltb, cases-bool, cases-lt, cond-true, cond-false}
+use Rattle.std.proofs.shelf.Tests.{and-parts, and-from, or-cases, eqb-true, leb-true, lt-ltb, cases-bool, cases-lt, cond-true, cond-false}
 use Rattle.std.specs.declared.option.Option.{Option}
 use Rattle.std.specs.declared.option.Option.the-variants.{Some, None}
 use Rattle.facts.specs.declared.fact.Entry.{Entry}
@@ -17,7 +16,7 @@ use Rattle.facts.specs.declared.fact.Kind.the-variants.{UserRole, PermissionRol
 use Rattle.facts.specs.declared.fact.Kind.the-variants.{UserConflict, RoleConflict, PermissionConflict}
 use Rattle.facts.specs.declared.fact.Kind.the-variants.{TaskConflict, AtOdds, OpenCase, Taken, Finished}
 use Rattle.facts.specs.declared.fact.Fact.{Fact}
-use Rattle.facts.specs.Facts.{size, number, kind-of, entries, fact, in-ranges, is-fact}
+use Rattle.facts.specs.Facts.{size, number, kind-of, entries, fact, in-ranges}
 use Rattle.facts.specs.Stores.{IsFact}
 use Rattle.facts.proofs.Ranges.{Ranged, ranged, fact-of-kind}
 use Rattle.facts.proofs.Sets.{fact-eq}

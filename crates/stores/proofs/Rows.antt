@@ -14,7 +14,7 @@ use Rattle.std.specs.declared.option.Option.{Option}
 use Rattle.std.specs.declared.option.Option.the-variants.{Some, None}
 use Rattle.std.specs.declared.result.Result.the-variants.{Ok}
 use Rattle.facts.specs.declared.fact.Fact.{Fact}
-use Rattle.facts.specs.Facts.{Not, Facts, In, with, same-fact}
+use Rattle.facts.specs.Facts.{Not, In, with, same-fact}
 use Rattle.facts.specs.Stores.{IsFact, Empty, Decides, Put, Take}
 use Rattle.facts.proofs.Sets.{same-eq, same-refl, not-in, with-other}
 use Rattle.stores.specs.Lent.{SameBeyond}

@@ -1,12 +1,11 @@
 -- The laws that every store owes, of a grid: lemmas, which only the proofs rest on.
-use mathlib.Core.Path.{_≡_, refl, _∙_}
-use mathlib.Core.Bool.{Bool, true, false, cond, _&&_}
+use mathlib.Core.Path.{refl, _∙_}
+use mathlib.Core.Bool.{_&&_}
 use mathlib.Core.List.{List}
 use Prim.Native.Nat.{ℕ, _-_, _≤_}
 use native.Mathlib.Omega.{arith}
 use denote.Ref.{RefT}
 use Rattle.std.proofs.shelf.Tests.{and-parts, cond-both}
-use Rattle.facts.specs.declared.fact.Fact.{Fact}
 use Rattle.facts.specs.Facts.{is-fact}
 use Rattle.facts.specs.Stores.{Only}
 use Rattle.stores.specs.LentLaws.{beyond-same, beyond-on}

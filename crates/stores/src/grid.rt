@@ -1,12 +1,11 @@
 // A store with one bit for each fact, in the first 22,148 bytes of the caller's.
 // Over fewer bytes it has no facts and no spare, and writes nothing.
 ghost use mathlib.Core.Path.{_≡_};
-ghost use mathlib.Core.Bool.{true, false, not, cond};
+ghost use mathlib.Core.Bool.{false, not, cond};
 ghost use Prim.Native.Nat.{ℕ, _/_, _<_, _≤_};
 ghost use lib.Dec.{eqb};
 ghost use lib.ListN.{length, getD};
 ghost use denote.Ref.{now};
-ghost use Rattle.facts.specs.Facts.{Facts};
 ghost use Rattle.facts.specs.Stores.{Empty};
 ghost use Rattle.stores.specs.Bits.{bit-in, bit, enough, grid-facts, grid-spare, Counted, Flipped, GridKeeps};
 ghost use Rattle.stores.specs.Lent.{SameBeyond};

@@ -1,5 +1,4 @@
-use mathlib.Core.Path.{ap, _∙_}
-use Rattle.facts.specs.Facts.{Facts}
+use mathlib.Core.Path.{_∙_}
 use Rattle.facts.proofs.Sets.{put-stays, put-has}
 use Rattle.facts.proofs.laws.put_then_has.Needs as need
 

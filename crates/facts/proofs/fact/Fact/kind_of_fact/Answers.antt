@@ -1,7 +1,7 @@
-use mathlib.Core.Path.{_≡_, sym, ap, _∙_}
+use mathlib.Core.Path.{sym, ap, _∙_}
 use Rattle.std.proofs.shelf.Tests.{cond-true, cond-false}
 use Rattle.std.specs.Options.{isSome}
-use Rattle.std.specs.declared.option.Option.the-variants.{Some, None}
+use Rattle.std.specs.declared.option.Option.the-variants.{None}
 use Rattle.facts.specs.Facts.{kind-of, is-fact}
 use Rattle.facts.proofs.Ranges.{fact-of-kind, fact-of-none, fact-told}
 use Rattle.facts.proofs.fact.Fact.kind_of_fact.Needs as need
