@@ -2,6 +2,8 @@
 ghost use mathlib.Core.Path.{_≡_};
 ghost use Rattle.std.specs.Vec.{made};
 ghost use Rattle.cache.specs.Memory.{recalled, Faithful};
+ghost use Rattle.book_grid.specs.Steps.{Does};
+ghost use Rattle.book_grid.specs.declared.step.Answer.{Answer};
 use crate::step::AnswerDisplay;
 use crate::step::Step;
 use crate::step::StepDisplay;
@@ -90,7 +92,10 @@ const RELEASE: [Step; 15] = [
 ];
 
 // Runs one step, and tells what it answers.
-pub fn show<S: Store>(rt: &LibcRuntime, store: &mut S, step: Step) -> io::Result<()>
+pub(crate) fn show<S: Store>(rt: &LibcRuntime, store: &mut S, step: Step) -> io::Result<()>
+    ensures does { λ _. ⌜ (sound (now (store .entry))
+        → (a : Answer) × Does step (facts (now (store .entry))) (spare (now (store .entry))) a
+        (facts (now (store .exit))) (spare (now (store .exit)))) ⌝ }
     ensures kept { λ _. ⌜ (sound (now (store .entry)) → sound (now (store .exit))) ⌝ }
     ensures outside { λ _. ⌜ outside (now (store .entry)) (now (store .exit)) ⌝ }
 {
@@ -110,7 +115,7 @@ fn play<S: Store>(rt: &LibcRuntime, store: &mut S, steps: &[Step]) -> io::Result
 }
 
 // Keeps the release in a store, and tells how far its spare fell.
-pub fn keep_release<S: Store>(rt: &LibcRuntime, store: &mut S) -> io::Result<()>
+pub(crate) fn keep_release<S: Store>(rt: &LibcRuntime, store: &mut S) -> io::Result<()>
     ensures kept { λ _. ⌜ (sound (now (store .entry)) → sound (now (store .exit))) ⌝ }
     ensures outside { λ _. ⌜ outside (now (store .entry)) (now (store .exit)) ⌝ }
 {
@@ -135,7 +140,7 @@ fn recollect<S: Store>(rt: &LibcRuntime, cache: &Cache<S>, fact: Fact) -> io::Re
 }
 
 // The same over a cache, and then what the cache remembers.
-pub fn keep_remembered<S: Store>(rt: &LibcRuntime, store: &mut Cache<S>) -> io::Result<()>
+pub(crate) fn keep_remembered<S: Store>(rt: &LibcRuntime, store: &mut Cache<S>) -> io::Result<()>
     ensures kept { λ _. ⌜ (Faithful sound facts (now (store .entry)) → Faithful sound facts (now (store .exit))) ⌝ }
     ensures outside { λ _. ⌜ outside (now (store .entry) .below) (now (store .exit) .below) ⌝ }
 {

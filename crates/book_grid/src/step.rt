@@ -25,7 +25,7 @@ pub enum Answer {
 }
 
 impl Step {
-    pub fn run<S: Store>(self, store: &mut S) -> Answer
+    pub(crate) fn run<S: Store>(self, store: &mut S) -> Answer
         ensures kept { λ _. ⌜ (sound (now (store .entry)) → sound (now (store .exit))) ⌝ }
         ensures outside { λ _. ⌜ outside (now (store .entry)) (now (store .exit)) ⌝ }
         ensures does { λ r. ⌜ (sound (now (store .entry))

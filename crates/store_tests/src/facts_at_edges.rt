@@ -1,3 +1,4 @@
+// The ranges of the kinds' entries, the numbers of the kinds, and the numbering of the facts.
 use facts::fact::Fact;
 use facts::fact::FactDebug;
 use facts::fact::FactPartialEq;

@@ -66,6 +66,8 @@ fn edges(bytes: &[u8]) -> [Option<u8>; 3] {
 #[test]
 fn a_grid_ends_at_its_last_byte(rt: LibcRuntime) -> Result<(), Fail> {
     let mut bytes = vec![in rt.alloc(); GUARD; 22_149]?;
+    check(put_and_let_go(&mut bytes.as_mut_slice()[0..22_148], FIRST))?;
+    check_eq(edges(&bytes), [Some(1), Some(0), Some(GUARD)])?;
     check(put_and_let_go(bytes.as_mut_slice(), LAST))?;
     check_eq(edges(&bytes), [Some(0), Some(0x80), Some(GUARD)])
 }
@@ -86,15 +88,15 @@ fn a_grid_under_a_cache_ends_there_too(rt: LibcRuntime) -> Result<(), Fail> {
 
 #[test]
 fn a_grid_of_fewer_bytes_writes_nothing(rt: LibcRuntime) -> Result<(), Fail> {
-    let mut bytes = vec![in rt.alloc(); GUARD; 22_147]?;
-    let mut grid = Grid::new(bytes.as_mut_slice());
+    let mut bytes = vec![in rt.alloc(); GUARD; 22_148]?;
+    let mut grid = Grid::new(&mut bytes.as_mut_slice()[0..22_147]);
     let answers = [put(&mut grid, FIRST), put(&mut grid, NO_FACT)];
     grid.take(FIRST);
     check_eq(
         (answers, grid.spare(), grid.empty(), grid.has(FIRST)),
         ([23, 1], 0, true, false),
     )?;
-    let untouched = vec![in rt.alloc(); GUARD; 22_147]?;
+    let untouched = vec![in rt.alloc(); GUARD; 22_148]?;
     check(bytes == untouched)
 }
 

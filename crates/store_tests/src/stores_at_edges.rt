@@ -1,3 +1,4 @@
+// What every kind of store does alike, and its most.
 use cache::Cache;
 use cache::CacheStore;
 use facts::fact::Fact;

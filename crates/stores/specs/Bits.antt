@@ -42,6 +42,6 @@ Counted xs n = n ≡ cond (enough xs) (tally (bit xs) 177184) 0
 abbrev pub GridKeeps : RefT (List ℕ) → RefT (List ℕ) → Type 0
 GridKeeps s t = SameBeyond 22148 s t × (length (now s) < 22148 → now t ≡ now s)
 
--- the bit i is the other way round, and every other bit as it was
+-- what one write does: the bit i is the other way round, and every other bit as it was
 abbrev pub Flipped : ℕ → List ℕ → List ℕ → Type 0
 Flipped i xs ys = (k : ℕ) → bit ys k ≡ cond (eqb k i) (not (bit xs i)) (bit xs k)

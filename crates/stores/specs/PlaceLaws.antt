@@ -6,20 +6,12 @@ use mathlib.Core.Logic.{inl, inr}
 use Prim.Native.Nat.{ℕ, zero, suc, _-_, _<_, _≤_}
 use native.Mathlib.Omega.{arith}
 use lib.ListN.{getD}
-use Rattle.std.proofs.shelf.Tests.{cases-eq, cases-bool, both-ways}
+use Rattle.std.proofs.shelf.Tests.{cases-eq, cases-bool, both-ways, or-left, or-right}
 use Rattle.facts.specs.declared.fact.Fact.{Fact}
 use Rattle.facts.specs.Facts.{In, same-fact}
 use Rattle.facts.specs.Stores.{IsFact, Only}
 use Rattle.facts.proofs.Sets.{same-eq, same-refl}
 use Rattle.stores.specs.Places.{nil, among, usable, Tidy}
-
-or-left : (a b : Bool) → a ≡ true → (a || b) ≡ true
-or-left true b e = refl
-or-left false b e = absurd (both-ways false refl e)
-
-or-right : (a b : Bool) → b ≡ true → (a || b) ≡ true
-or-right true b e = refl
-or-right false b e = e
 
 or-skip : (a b : Bool) → a ≡ false → (a || b) ≡ b
 or-skip true b e = absurd (both-ways true e refl)

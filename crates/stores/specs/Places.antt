@@ -18,7 +18,7 @@ abbrev pub among : List Fact → ℕ → Facts
 among xs zero f = false
 among xs (suc n) f = same-fact (getD xs n nil) f || among xs n f
 
--- a store uses no more places than this
+-- how many of the places a list may use
 abbrev pub usable : List Fact → ℕ
 usable xs = min (length xs) 4096
 
@@ -30,7 +30,7 @@ pub record Tidy (xs : List Fact) (n : ℕ) : Type 0 where
   -- and no two the same
   pub apart : (j k : ℕ) → j < k → k < n → Not (getD xs j nil ≡ getD xs k nil)
 
--- where f stands in the first n places, if it does
+-- what a search tells: where f stands in the first n places, if it does
 abbrev pub Found : List Fact → ℕ → Fact → Option ℕ → Type 0
 Found xs n f None = n ≤ usable xs → among xs n f ≡ false
 Found xs n f (Some i) = (i < n) × (n ≤ usable xs) × (getD xs i nil ≡ f)
