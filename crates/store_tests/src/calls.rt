@@ -4,18 +4,18 @@ use facts::fact::Fact;
 use facts::store::Store;
 
 // 0, or the number of the refusal.
-pub fn put<S: Store>(store: &mut S, fact: Fact) -> u8 {
+pub(crate) fn put<S: Store>(store: &mut S, fact: Fact) -> u8 {
     match store.put(fact) {
         Ok(_) => 0,
         Err(refusal) => refusal.number(),
     }
 }
 
-pub fn has<S: Store>(store: &mut S, fact: Fact) -> char {
+pub(crate) fn has<S: Store>(store: &mut S, fact: Fact) -> char {
     if store.has(fact) { 'y' } else { 'n' }
 }
 
-pub fn remembers<S: Store>(cache: &Cache<S>, fact: Fact) -> char {
+pub(crate) fn remembers<S: Store>(cache: &Cache<S>, fact: Fact) -> char {
     match cache.remembers(fact) {
         Some(true) => 'y',
         Some(false) => 'n',
