@@ -8,15 +8,15 @@ use cache::Cache;
 use cache::CacheStore;
 use facts::fact::Fact;
 use facts::fact::Kind;
+use grid::Grid;
+use grid::GridStore;
+use list::List;
+use list::ListStore;
 use runs::keep_release;
 use runs::keep_remembered;
 use runs::show;
 use std::io;
 use step::Step;
-use stores::grid::Grid;
-use stores::grid::GridStore;
-use stores::list::List;
-use stores::list::ListStore;
 
 const NO_FACT: Fact = Fact {
     kind: 0,

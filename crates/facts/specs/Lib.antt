@@ -1,2 +1,4 @@
 pub mod Facts
+pub mod Lent
+pub mod LentLaws
 pub mod Stores

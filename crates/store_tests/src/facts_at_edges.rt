@@ -6,8 +6,8 @@ use facts::fact::Kind;
 use facts::fact::KindDebug;
 use facts::fact::KindPartialEq;
 use facts::refusal::Refusal;
+use grid::numbering::bit_number;
 use std::test::*;
-use stores::numbering::bit_number;
 
 // The last fact of each kind.
 const LAST: [Fact; 12] = [

@@ -1,5 +1,5 @@
 // What the stores do with the caller's memory, and what a cache remembers.
-ghost use Rattle.stores.specs.Bits.{GridKeeps};
+ghost use Rattle.grid.specs.Bits.{GridKeeps};
 use crate::calls::has;
 use crate::calls::put;
 use crate::calls::remembers;
@@ -9,11 +9,11 @@ use facts::fact::Fact;
 use facts::fact::FactDebug;
 use facts::fact::FactPartialEq;
 use facts::store::Store;
+use grid::Grid;
+use grid::GridStore;
+use list::List;
+use list::ListStore;
 use std::test::*;
-use stores::grid::Grid;
-use stores::grid::GridStore;
-use stores::list::List;
-use stores::list::ListStore;
 
 const NO_FACT: Fact = Fact {
     kind: 0,

@@ -8,11 +8,11 @@ use facts::laws::put_twice;
 use facts::laws::spare_within;
 use facts::laws::take_then_has;
 use facts::store::Store;
+use grid::Grid;
+use grid::GridStore;
+use list::List;
+use list::ListStore;
 use std::test::*;
-use stores::grid::Grid;
-use stores::grid::GridStore;
-use stores::list::List;
-use stores::list::ListStore;
 
 const NO_FACT: Fact = Fact {
     kind: 0,

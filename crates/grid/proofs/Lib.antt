@@ -1,0 +1,4 @@
+pub mod Flips
+pub mod Grids
+pub mod Onto
+pub mod Tallies

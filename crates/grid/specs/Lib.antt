@@ -1,0 +1,3 @@
+pub mod Bits
+pub mod GridLaws
+pub mod Numbers

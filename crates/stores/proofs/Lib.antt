@@ -1,5 +1,0 @@
-pub mod Flips
-pub mod Grids
-pub mod Onto
-pub mod Rows
-pub mod Tallies

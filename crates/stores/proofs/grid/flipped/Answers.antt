@@ -1,5 +1,0 @@
-use Rattle.stores.proofs.Flips.{turned-bit}
-use Rattle.stores.proofs.grid.flipped.Needs as need
-
-pub returns : need.returns
-returns c k h = turned-bit (c .args .byte) (c .args .place) k (c .pre) h

@@ -1,5 +1,0 @@
-use Rattle.stores.proofs.Rows.{empty-told}
-use Rattle.stores.proofs.list.ListStore.empty.Needs as need
-
-pub returns : need.returns
-returns c _ = empty-told (c .args .self .now .places .now) (c .args .self .now .used)
