@@ -1,5 +1,7 @@
 // Keeps a small release in a grid under a cache, in a list, and in a list under two caches, and tells what each call
 // answers: the same in all three. Then tells of a role network who holds what, and which rule a change would break.
+#![tactic(auto)]
+
 mod network;
 mod runs;
 mod step;

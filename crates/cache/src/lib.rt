@@ -1,5 +1,7 @@
 // A store above another, which remembers some of the answers of the lower one.
 // Each fact has one slot, and a slot remembers the last fact that was noted there.
+#![tactic(auto)]
+
 ghost use Rattle.std.specs.Prelude.{◌≡◌, ◌<◌, Bool, true, false, length, Some, None, Ok};
 ghost use Rattle.facts.specs.declared.fact.Fact.{Fact};
 ghost use Rattle.facts.specs.Stores.{Put, Take};
@@ -35,8 +37,8 @@ impl<S: Store> Cache<S> {
     pub fn new(below: S) -> Cache<S>
         ensures below { result.below ≡ below }
         ensures nothing { (f : Fact) → recalled result.slots f ≡ None }
-        ensures honest { Honest (facts below) result.slots }
-        ensures sound { sound below → Faithful sound facts result }
+        ensures honest { Honest (S.facts below) result.slots }
+        ensures sound { S.sound below → Faithful S.sound S.facts result }
     {
         Cache {
             below,
@@ -47,8 +49,8 @@ impl<S: Store> Cache<S> {
     // The answer that is remembered of a fact.
     pub fn remembers(&self, fact: Fact) -> Option<bool>
         ensures value { result ≡ recalled self.now.slots fact }
-        ensures honest { Faithful sound facts self.now
-            → (there : Bool) → result ≡ Some there → there ≡ facts self.now.below fact }
+        ensures honest { Faithful S.sound S.facts self.now
+            → (there : Bool) → result ≡ Some there → there ≡ S.facts self.now.below fact }
         ensures few { AtMost 64 (Remembered self.now.slots) }
     {
         let answer = self.slots[slot_of(fact)]?;
@@ -71,35 +73,35 @@ impl<S: Store> Cache<S> {
 impl<S: Store> Store for Cache<S> {
     const MOST: usize = S::MOST;
 
-    ghost limit = { S.Store.limit };
+    ghost limit = { S.limit };
 
-    ghost facts = { λ c. S.Store.facts c.below };
+    ghost facts = { λ c. S.facts c.below };
 
-    ghost spare = { λ c. S.Store.spare c.below };
+    ghost spare = { λ c. S.spare c.below };
 
-    ghost sound = { λ c. Faithful S.Store.sound S.Store.facts c };
+    ghost sound = { λ c. Faithful S.sound S.facts c };
 
-    ghost outside = { λ c d. S.Store.outside c.below d.below };
+    ghost outside = { λ c d. S.outside c.below d.below };
 
-    ghost only = { λ c h. S.Store.only c.below h.lower };
+    ghost only = { λ c h. S.only c.below h.lower };
 
-    ghost bounded = { λ c. S.Store.bounded c.below };
+    ghost bounded = { λ c. S.bounded c.below };
 
-    ghost unmoved = { λ c. S.Store.unmoved c.below };
+    ghost unmoved = { λ c. S.unmoved c.below };
 
-    ghost chained = { λ c d e. S.Store.chained c.below d.below e.below };
+    ghost chained = { λ c d e. S.chained c.below d.below e.below };
 
     fn most_facts() -> usize {
         S::most_facts()
     }
 
     fn has(&mut self, fact: Fact) -> bool
-        ensures value { Faithful sound facts self.old
-            → result ≡ facts self.old.below fact }
-        ensures kept { Faithful sound facts self.old → Faithful sound facts self.new }
-        ensures facts { facts self.new.below ≡ facts self.old.below }
-        ensures spare { spare self.new.below ≡ spare self.old.below }
-        ensures outside { outside self.old.below self.new.below }
+        ensures value { Faithful S.sound S.facts self.old
+            → result ≡ S.facts self.old.below fact }
+        ensures kept { Faithful S.sound S.facts self.old → Faithful S.sound S.facts self.new }
+        ensures facts { S.facts self.new.below ≡ S.facts self.old.below }
+        ensures spare { S.spare self.new.below ≡ S.spare self.old.below }
+        ensures outside { S.outside self.old.below self.new.below }
         ensures remembered { recalled self.new.slots fact ≡ Some result }
         ensures others { OthersStay fact self.old.slots self.new.slots }
     {
@@ -112,11 +114,11 @@ impl<S: Store> Store for Cache<S> {
     }
 
     fn put(&mut self, fact: Fact) -> Result<(), Refusal>
-        ensures kept { Faithful sound facts self.old → Faithful sound facts self.new }
-        ensures does { Faithful sound facts self.old
-            → Put fact (facts self.old.below) (spare self.old.below) result
-            (facts self.new.below) (spare self.new.below) }
-        ensures outside { outside self.old.below self.new.below }
+        ensures kept { Faithful S.sound S.facts self.old → Faithful S.sound S.facts self.new }
+        ensures does { Faithful S.sound S.facts self.old
+            → Put fact (S.facts self.old.below) (S.spare self.old.below) result
+            (S.facts self.new.below) (S.spare self.new.below) }
+        ensures outside { S.outside self.old.below self.new.below }
         ensures remembered { result ≡ Ok tt → recalled self.new.slots fact ≡ Some true }
         ensures others { OthersStay fact self.old.slots self.new.slots }
     {
@@ -126,11 +128,11 @@ impl<S: Store> Store for Cache<S> {
     }
 
     fn take(&mut self, fact: Fact)
-        ensures kept { Faithful sound facts self.old → Faithful sound facts self.new }
-        ensures does { Faithful sound facts self.old
-            → Take fact (facts self.old.below) (spare self.old.below)
-            (facts self.new.below) (spare self.new.below) }
-        ensures outside { outside self.old.below self.new.below }
+        ensures kept { Faithful S.sound S.facts self.old → Faithful S.sound S.facts self.new }
+        ensures does { Faithful S.sound S.facts self.old
+            → Take fact (S.facts self.old.below) (S.spare self.old.below)
+            (S.facts self.new.below) (S.spare self.new.below) }
+        ensures outside { S.outside self.old.below self.new.below }
         ensures remembered { recalled self.new.slots fact ≡ Some false }
         ensures others { OthersStay fact self.old.slots self.new.slots }
     {

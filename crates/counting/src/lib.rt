@@ -1,4 +1,6 @@
 // A store above another that counts the calls that reach it, so that a test can tell what a question costs.
+#![tactic(auto)]
+
 ghost use Rattle.std.specs.Prelude.{◌≡◌, ℕ};
 ghost use Rattle.facts.specs.Stores.{Put, Take};
 ghost use Rattle.counting.specs.Counts.{counted};
@@ -45,34 +47,34 @@ impl<S> Counting<S> {
 impl<S: Store> Store for Counting<S> {
     const MOST: usize = S::MOST;
 
-    ghost limit = { S.Store.limit };
+    ghost limit = { S.limit };
 
-    ghost facts = { λ c. S.Store.facts c.below };
+    ghost facts = { λ c. S.facts c.below };
 
-    ghost spare = { λ c. S.Store.spare c.below };
+    ghost spare = { λ c. S.spare c.below };
 
-    ghost sound = { λ c. S.Store.sound c.below };
+    ghost sound = { λ c. S.sound c.below };
 
-    ghost outside = { λ c d. S.Store.outside c.below d.below };
+    ghost outside = { λ c d. S.outside c.below d.below };
 
-    ghost only = { λ c h. S.Store.only c.below h };
+    ghost only = { λ c h. S.only c.below h };
 
-    ghost bounded = { λ c. S.Store.bounded c.below };
+    ghost bounded = { λ c. S.bounded c.below };
 
-    ghost unmoved = { λ c. S.Store.unmoved c.below };
+    ghost unmoved = { λ c. S.unmoved c.below };
 
-    ghost chained = { λ c d e. S.Store.chained c.below d.below e.below };
+    ghost chained = { λ c d e. S.chained c.below d.below e.below };
 
     fn most_facts() -> usize {
         S::most_facts()
     }
 
     fn has(&mut self, fact: Fact) -> bool
-        ensures value { sound self.old.below → result ≡ facts self.old.below fact }
-        ensures kept { sound self.old.below → sound self.new.below }
-        ensures facts { facts self.new.below ≡ facts self.old.below }
-        ensures spare { spare self.new.below ≡ spare self.old.below }
-        ensures outside { outside self.old.below self.new.below }
+        ensures value { S.sound self.old.below → result ≡ S.facts self.old.below fact }
+        ensures kept { S.sound self.old.below → S.sound self.new.below }
+        ensures facts { S.facts self.new.below ≡ S.facts self.old.below }
+        ensures spare { S.spare self.new.below ≡ S.spare self.old.below }
+        ensures outside { S.outside self.old.below self.new.below }
         ensures asked { self.new.asked ≡ counted self.old.asked }
         ensures changed { self.new.changed ≡ self.old.changed }
     {
@@ -81,11 +83,11 @@ impl<S: Store> Store for Counting<S> {
     }
 
     fn put(&mut self, fact: Fact) -> Result<(), Refusal>
-        ensures kept { sound self.old.below → sound self.new.below }
-        ensures does { sound self.old.below
-            → Put fact (facts self.old.below) (spare self.old.below) result
-            (facts self.new.below) (spare self.new.below) }
-        ensures outside { outside self.old.below self.new.below }
+        ensures kept { S.sound self.old.below → S.sound self.new.below }
+        ensures does { S.sound self.old.below
+            → Put fact (S.facts self.old.below) (S.spare self.old.below) result
+            (S.facts self.new.below) (S.spare self.new.below) }
+        ensures outside { S.outside self.old.below self.new.below }
         ensures asked { self.new.asked ≡ self.old.asked }
         ensures changed { self.new.changed ≡ counted self.old.changed }
     {
@@ -94,11 +96,11 @@ impl<S: Store> Store for Counting<S> {
     }
 
     fn take(&mut self, fact: Fact)
-        ensures kept { sound self.old.below → sound self.new.below }
-        ensures does { sound self.old.below
-            → Take fact (facts self.old.below) (spare self.old.below)
-            (facts self.new.below) (spare self.new.below) }
-        ensures outside { outside self.old.below self.new.below }
+        ensures kept { S.sound self.old.below → S.sound self.new.below }
+        ensures does { S.sound self.old.below
+            → Take fact (S.facts self.old.below) (S.spare self.old.below)
+            (S.facts self.new.below) (S.spare self.new.below) }
+        ensures outside { S.outside self.old.below self.new.below }
         ensures asked { self.new.asked ≡ self.old.asked }
         ensures changed { self.new.changed ≡ counted self.old.changed }
     {

@@ -2,13 +2,13 @@
 -- proofs rest on.
 use Rattle.std.proofs.Common.{◌∙◌}
 use Rattle.std.specs.Prelude.{ℕ, List, refl}
-use Rattle.std.specs.Borrow.{Bor}
+use Rattle.std.specs.Borrow.{MutBor}
 use Rattle.facts.specs.Lent.{SameBeyond}
 
-pub beyond_same : {X : Type 0} (n : ℕ) (s : Bor (List X)) → SameBeyond n s s
+pub beyond_same : {X : Type 0} (n : ℕ) (s : MutBor (List X)) → SameBeyond n s s
 beyond_same n s = record { named = refl; long = refl; rest = refl }
 
-pub beyond_on : {X : Type 0} (n : ℕ) (s t u : Bor (List X))
+pub beyond_on : {X : Type 0} (n : ℕ) (s t u : MutBor (List X))
     → SameBeyond n s t → SameBeyond n t u → SameBeyond n s u
 beyond_on n s t u p q = record {
   named = q.named ∙ p.named;

@@ -8,12 +8,12 @@ use crate::store::Store;
 
 // After a put the fact is there exactly when the put was accepted.
 pub fn put_then_has<S: Store>(store: &mut S, added: Fact) -> (Result<(), Refusal>, bool)
-    ensures kept { sound store.old → sound store.new }
-    ensures outside { outside store.old store.new }
-    ensures told { sound store.old → result.1 ≡ is_ok result.0 }
-    ensures does { sound store.old
-        → Put added (facts store.old) (spare store.old) result.0
-        (facts store.new) (spare store.new) }
+    ensures kept { S.sound store.old → S.sound store.new }
+    ensures outside { S.outside store.old store.new }
+    ensures told { S.sound store.old → result.1 ≡ is_ok result.0 }
+    ensures does { S.sound store.old
+        → Put added (S.facts store.old) (S.spare store.old) result.0
+        (S.facts store.new) (S.spare store.new) }
 {
     let answer = store.put(added);
     let there = store.has(added);
@@ -22,12 +22,12 @@ pub fn put_then_has<S: Store>(store: &mut S, added: Fact) -> (Result<(), Refusal
 
 // After a take the fact is not there.
 pub fn take_then_has<S: Store>(store: &mut S, removed: Fact) -> bool
-    ensures kept { sound store.old → sound store.new }
-    ensures outside { outside store.old store.new }
-    ensures told { sound store.old → result ≡ false }
-    ensures does { sound store.old
-        → Take removed (facts store.old) (spare store.old)
-        (facts store.new) (spare store.new) }
+    ensures kept { S.sound store.old → S.sound store.new }
+    ensures outside { S.outside store.old store.new }
+    ensures told { S.sound store.old → result ≡ false }
+    ensures does { S.sound store.old
+        → Take removed (S.facts store.old) (S.spare store.old)
+        (S.facts store.new) (S.spare store.new) }
 {
     store.take(removed);
     store.has(removed)
@@ -35,11 +35,11 @@ pub fn take_then_has<S: Store>(store: &mut S, removed: Fact) -> bool
 
 // Two puts of a fact answer and do what one does.
 pub fn put_twice<S: Store>(store: &mut S, repeated: Fact) -> Result<(), Refusal>
-    ensures kept { sound store.old → sound store.new }
-    ensures outside { outside store.old store.new }
-    ensures does { sound store.old
-        → Put repeated (facts store.old) (spare store.old) result
-        (facts store.new) (spare store.new) }
+    ensures kept { S.sound store.old → S.sound store.new }
+    ensures outside { S.outside store.old store.new }
+    ensures does { S.sound store.old
+        → Put repeated (S.facts store.old) (S.spare store.old) result
+        (S.facts store.new) (S.spare store.new) }
 {
     let _ = store.put(repeated);
     store.put(repeated)
@@ -47,11 +47,11 @@ pub fn put_twice<S: Store>(store: &mut S, repeated: Fact) -> Result<(), Refusal>
 
 // A put and a take of a fact do what the take alone does.
 pub fn put_then_take<S: Store>(store: &mut S, passing: Fact)
-    ensures kept { sound store.old → sound store.new }
-    ensures outside { outside store.old store.new }
-    ensures does { sound store.old
-        → Take passing (facts store.old) (spare store.old)
-        (facts store.new) (spare store.new) }
+    ensures kept { S.sound store.old → S.sound store.new }
+    ensures outside { S.outside store.old store.new }
+    ensures does { S.sound store.old
+        → Take passing (S.facts store.old) (S.spare store.old)
+        (S.facts store.new) (S.spare store.new) }
 {
     let _ = store.put(passing);
     store.take(passing);
@@ -59,8 +59,8 @@ pub fn put_then_take<S: Store>(store: &mut S, passing: Fact)
 
 // The spare never exceeds the most.
 pub fn spare_within<S: Store>(store: &S) -> usize
-    ensures value { result ≡ spare store.now }
-    ensures within { result ≤ S.Store.limit }
+    ensures value { result ≡ S.spare store.now }
+    ensures within { result ≤ S.limit }
 {
     store.spare()
 }

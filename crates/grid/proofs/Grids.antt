@@ -1,4 +1,4 @@
-use Rattle.std.proofs.Common.{◌≡◌, ℕ, ◌+◌, ◌-◌, ◌/◌, ◌%◌, ◌<◌, ◌≤◌, Bool, true, false, cond, not, ◌&&◌, eqb, leb, ◌≢◌, List, length, get_or, Some, None, Ok, sym, refl, ap, ◌∙◌, subst, inl, inr, arith, Bor}
+use Rattle.std.proofs.Common.{◌≡◌, ℕ, ◌+◌, ◌-◌, ◌/◌, ◌%◌, ◌<◌, ◌≤◌, Bool, true, false, cond, not, ◌&&◌, eqb, leb, ◌≢◌, List, length, get_or, Some, None, Ok, sym, refl, ap, ◌∙◌, subst, inl, inr, arith, MutBor}
 use mathlib.Core.Path.{fun_ext}
 use Rattle.std.proofs.lemmas.Bool.{and_left, and_right, both_ways, cases_Bool, cases_eq, cond-true, cond-false, eq-eqb, ne_eqb, leb-true, not_from_true, not_from_false}
 use Rattle.facts.specs.declared.fact.Fact.{Fact}
@@ -29,7 +29,7 @@ spare_at xs n w = cond-true (enough xs) (177184 - n) 0 w
 count_at : (xs : List ℕ) (n : ℕ) → enough xs ≡ true → Counted xs n → n ≡ tally (bit xs) 177184
 count_at xs n w c = c ∙ cond-true (enough xs) (tally (bit xs) 177184) 0 w
 
-pub wide_keeps : (s t : Bor (List ℕ)) → enough s.now ≡ true → SameBeyond 22148 s t → GridKeeps s t
+pub wide_keeps : (s t : MutBor (List ℕ)) → enough s.now ≡ true → SameBeyond 22148 s t → GridKeeps s t
 wide_keeps s t w k = (k, λ h. absurd (omega (arith, leb-true 22148 (length s.now) w)))
 
 module _ (xs ys : List ℕ) (f : Fact) (w : enough xs ≡ true) (long : length ys ≡ length xs) (b : IsFact f)

@@ -1,5 +1,5 @@
 use Rattle.std.specs.Prelude.{◌≡◌, ℕ, zero, suc, ◌+◌, ◌-◌, ◌/◌, ◌%◌, ◌^◌, ◌<◌, Bool, cond, not, ◌&&◌, List, length, ◌==◌, nat_le, slice_index}
-use Rattle.std.specs.Borrow.{Bor}
+use Rattle.std.specs.Borrow.{MutBor}
 use Rattle.facts.specs.Facts.{Facts, is_fact}
 use Rattle.facts.specs.Lent.{SameBeyond}
 use Rattle.grid.specs.Numbers.{bit_number}
@@ -34,7 +34,7 @@ abbrev pub Counted : List ℕ → ℕ → Type 0
 Counted xs n = n ≡ cond (enough xs) (tally (bit xs) 177184) 0
 
 -- only the first 22,148 bytes may have changed, and none where there are fewer
-abbrev pub GridKeeps : Bor (List ℕ) → Bor (List ℕ) → Type 0
+abbrev pub GridKeeps : MutBor (List ℕ) → MutBor (List ℕ) → Type 0
 GridKeeps s t = SameBeyond 22148 s t × (length s.now < 22148 → t.now ≡ s.now)
 
 -- what one write does: the bit i is the other way round, and every other bit as it was

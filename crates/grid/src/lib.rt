@@ -1,5 +1,7 @@
 // A store with one bit for each fact, in the first 22,148 bytes of the caller's.
 // Over fewer bytes it has no facts and no spare, and writes nothing.
+#![tactic(auto)]
+
 ghost use Rattle.std.specs.Prelude.{◌≡◌, ℕ, ◌/◌, ◌<◌, ◌≤◌, false, not, length, if◌then◌else◌, nat_eq, slice_index};
 ghost use Rattle.facts.specs.Stores.{Empty};
 ghost use Rattle.grid.specs.Bits.{bit_in, bit, enough, grid_facts, grid_spare, Counted, Flipped, GridKeeps};

@@ -1,4 +1,6 @@
 // A store in a list of places that the caller lends, unsorted: the used places come first.
+#![tactic(auto)]
+
 ghost use Rattle.std.specs.Prelude.{◌≡◌, ◌-◌, min, length};
 ghost use Rattle.facts.specs.Stores.{Empty};
 ghost use Rattle.facts.specs.Lent.{SameBeyond};

@@ -1,4 +1,6 @@
 // Tests of the role network and of the six rules, and of what each question costs.
+#![tactic(auto)]
+
 #[cfg(test)]
 mod calls;
 #[cfg(test)]

@@ -26,7 +26,7 @@ fn same(f: Fact, g: Fact) -> bool
 impl Change {
     // Whether a fact is in the set after the change.
     pub(crate) fn has<S: Store>(self, store: &mut S, fact: Fact) -> bool
-        ensures value { sound store.old → result ≡ after (facts store.old) self fact }
+        ensures value { S.sound store.old → result ≡ after (S.facts store.old) self fact }
         ensures asks { Asks S.Store store.old store.new }
     {
         match self {
@@ -38,8 +38,8 @@ impl Change {
 
     // Whether two things conflict, or are at odds, after the change.
     pub(crate) fn pairs<S: Store>(self, store: &mut S, kind: Kind, x: u8, y: u8) -> bool
-        ensures value { sound store.old
-            → result ≡ after (facts store.old) self (pair kind x y) }
+        ensures value { S.sound store.old
+            → result ≡ after (S.facts store.old) self (pair kind x y) }
         ensures asks { Asks S.Store store.old store.new }
     {
         self.has(store, Fact::new(kind, x.min(y), x.max(y), 0))

@@ -242,8 +242,8 @@ impl Judgement {
     // The first rule that the facts break after the change.
     fn first_broken<S: Store>(self, store: &mut S, change: Change, sheet: &mut [u8]) -> Option<Rule>
         requires { 64 ≤ length sheet.old }
-        ensures value { sound store.old → Proper change
-            → ((q : Rule) → Held self q (facts store.old)) → First (after (facts store.old) change) result }
+        ensures value { S.sound store.old → Proper change
+            → ((q : Rule) → Held self q (S.facts store.old)) → First (after (S.facts store.old) change) result }
         ensures sheet { Scratch sheet.old sheet.new }
         ensures asks { Asks S.Store store.old store.new }
     {
@@ -263,7 +263,7 @@ pub fn judge<S: Store>(
     sheet: &mut [u8],
 ) -> Result<Option<Rule>, Refusal>
     ensures answer { Answered (Proper change) (length sheet.old) result
-        (λ o. sound store.old → First (after (facts store.old) change) o) }
+        (λ o. S.sound store.old → First (after (S.facts store.old) change) o) }
     ensures sheet { Sheet result sheet.old sheet.new }
     ensures asks { Asks S.Store store.old store.new }
 {
@@ -278,8 +278,8 @@ pub fn judge_quickly<S: Store>(
     sheet: &mut [u8],
 ) -> Result<Option<Rule>, Refusal>
     ensures answer { Answered (Proper change) (length sheet.old) result
-        (λ o. sound store.old → ((q : Rule) → Keeps q (facts store.old))
-        → First (after (facts store.old) change) o) }
+        (λ o. S.sound store.old → ((q : Rule) → Keeps q (S.facts store.old))
+        → First (after (S.facts store.old) change) o) }
     ensures sheet { Sheet result sheet.old sheet.new }
     ensures asks { Asks S.Store store.old store.new }
 {

@@ -1,4 +1,6 @@
 // Who reaches, holds and carries what in the role network, and the six rules of separation of duty.
+#![tactic(auto)]
+
 pub mod change;
 mod conflicts;
 pub mod judge;

@@ -21,7 +21,7 @@ pub fn reaches<S: Store>(
     sheet: &mut [u8],
 ) -> Result<bool, Refusal>
     ensures answer { Answered ((senior < 64) × (junior < 64)) (length sheet.old) result
-        (λ b. sound store.old → Decides b (Reaches (facts store.old) senior junior)) }
+        (λ b. S.sound store.old → Decides b (Reaches (S.facts store.old) senior junior)) }
     ensures sheet { Sheet result sheet.old sheet.new }
     ensures asks { Asks S.Store store.old store.new }
 {
@@ -37,7 +37,7 @@ pub fn lies_above<S: Store>(
     sheet: &mut [u8],
 ) -> Result<bool, Refusal>
     ensures answer { Answered ((senior < 64) × (junior < 64)) (length sheet.old) result
-        (λ b. sound store.old → Decides b (Above (facts store.old) senior junior)) }
+        (λ b. S.sound store.old → Decides b (Above (S.facts store.old) senior junior)) }
     ensures sheet { Sheet result sheet.old sheet.new }
     ensures asks { Asks S.Store store.old store.new }
 {
@@ -53,7 +53,7 @@ pub fn holds<S: Store>(
     sheet: &mut [u8],
 ) -> Result<bool, Refusal>
     ensures answer { Answered ((user < 128) × (role < 64)) (length sheet.old) result
-        (λ b. sound store.old → Decides b (Holds (facts store.old) user role)) }
+        (λ b. S.sound store.old → Decides b (Holds (S.facts store.old) user role)) }
     ensures sheet { Sheet result sheet.old sheet.new }
     ensures asks { Asks S.Store store.old store.new }
 {
@@ -69,7 +69,7 @@ pub fn carries<S: Store>(
     sheet: &mut [u8],
 ) -> Result<bool, Refusal>
     ensures answer { Answered ((role < 64) × (permission < 64)) (length sheet.old) result
-        (λ b. sound store.old → Decides b (Carries (facts store.old) role permission)) }
+        (λ b. S.sound store.old → Decides b (Carries (S.facts store.old) role permission)) }
     ensures sheet { Sheet result sheet.old sheet.new }
     ensures asks { Asks S.Store store.old store.new }
 {
@@ -89,7 +89,7 @@ pub fn has_permission<S: Store>(
     sheet: &mut [u8],
 ) -> Result<bool, Refusal>
     ensures answer { Answered ((user < 128) × (permission < 64)) (length sheet.old) result
-        (λ b. sound store.old → Decides b (Has (facts store.old) user permission)) }
+        (λ b. S.sound store.old → Decides b (Has (S.facts store.old) user permission)) }
     ensures sheet { Sheet result sheet.old sheet.new }
     ensures asks { Asks S.Store store.old store.new }
 {
@@ -104,7 +104,7 @@ pub fn roles_reached<S: Store>(
     sheet: &mut [u8],
 ) -> Result<RoleSet, Refusal>
     ensures answer { Answered (role < 64) (length sheet.old) result
-        (λ x. sound store.old → Exactly x (Reaches (facts store.old) role)) }
+        (λ x. S.sound store.old → Exactly x (Reaches (S.facts store.old) role)) }
     ensures sheet { Sheet result sheet.old sheet.new }
     ensures asks { Asks S.Store store.old store.new }
 {
@@ -115,7 +115,7 @@ pub fn roles_reached<S: Store>(
 // The roles that a user holds.
 pub fn roles_held<S: Store>(store: &mut S, user: u32, sheet: &mut [u8]) -> Result<RoleSet, Refusal>
     ensures answer { Answered (user < 128) (length sheet.old) result
-        (λ x. sound store.old → Exactly x (Holds (facts store.old) user)) }
+        (λ x. S.sound store.old → Exactly x (Holds (S.facts store.old) user)) }
     ensures sheet { Sheet result sheet.old sheet.new }
     ensures asks { Asks S.Store store.old store.new }
 {

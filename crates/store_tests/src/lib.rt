@@ -1,4 +1,6 @@
 // Tests of facts and stores at the edges of their ranges.
+#![tactic(auto)]
+
 #[cfg(test)]
 mod calls;
 #[cfg(test)]

@@ -8,16 +8,16 @@ use Rattle.cache.specs.Memory.{recalled, Honest}
 use Rattle.cache.proofs.Recall.{faithful_noted, noted_recalled, noted_others}
 use Rattle.cache.proofs.CacheStore.put.Goals as goal
 
-pub returns-in-err-put : goal.returns-in-err-put
-returns-in-err-put g c =
+pub returns-in_err-put : goal.returns-in_err-put
+returns-in_err-put g c =
     let st = g.S.Store in
     let a = c.args.self.now in
-    let e = c.in-err-put.ensures in
+    let e = c.in_err-put.ensures in
     let f = c.args.fact in
     let s = c.put.new.self in
-    let why = c.in-err-put.field-0.0 in
-    let p = err_from_is_err_and c.from-residual.result c.from-residual.ensures.1 in
-    let r : c.from-residual.result ≡ Err why = p.1 ∙ ap Err p.2 in
+    let why = c.in_err-put.field-0.0 in
+    let p = err_from_is_err_and c.from_residual.result c.from_residual.ensures.1 in
+    let r : c.from_residual.result ≡ Err why = p.1 ∙ ap Err p.2 in
     record {
       kept = λ h. record {
         lower = e.kept h.lower;
@@ -39,7 +39,7 @@ returns g c =
     let st = g.S.Store in
     let a = c.args.self.now in
     let n = c.note.ensures in
-    let e = c.in-ok-put.ensures in
+    let e = c.in_ok-put.ensures in
     let f = c.args.fact in
     let s = c.put.new.self in
     record {

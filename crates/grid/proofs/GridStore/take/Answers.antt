@@ -7,11 +7,11 @@ returns-then-holds c =
     let s = c.args.self.now in
     let t = c.flip.new.self in
     let flip = c.flip.ensures in
-    let wide = sym c.if-is-wide.ensures in
+    let wide = sym c.if-is_wide.ensures in
     let taken = flipped_out s.bytes.now t.bytes.now c.args.fact c.in-Some.number s.count t.count
     c.in-Some.ensures.value wide flip.outside.long flip.bits flip.count c.if-holds.ensures in
     record {
-      kept = λ h. rw c.saturating-sub-self.ensures (taken h).0;
-      does = λ h. rw c.saturating-sub-self.ensures (taken h).1;
+      kept = λ h. rw c.saturating_sub-self.ensures (taken h).0;
+      does = λ h. rw c.saturating_sub-self.ensures (taken h).1;
       outside = wide_keeps s.bytes t.bytes wide flip.outside;
     }

@@ -7,20 +7,20 @@ use Rattle.grid.specs.Numbers.{base, number_in, bit_number}
 use Rattle.grid.proofs.Onto.{numbering, number_at}
 use Rattle.grid.proofs.numbering.bit_number.Goals as goal
 
-pub returns-in-err-kind : goal.returns-in-err-kind
-returns-in-err-kind c =
+pub returns-in_err-kind : goal.returns-in_err-kind
+returns-in_err-kind c =
     let f = c.args.fact in
     record {
-      value = c.from-residual.ensures
-          ∙ sym (cond-false (is_fact f) (Some (bit_number f)) None (none_told f c.in-err-kind.ensures.kind));
+      value = c.from_residual.ensures
+          ∙ sym (cond-false (is_fact f) (Some (bit_number f)) None (none_told f c.in_err-kind.ensures.kind));
       onto = numbering;
     }
 
 pub returns : goal.returns
 returns c =
     let f = c.args.fact in
-    let k = c.in-ok-kind.kind in
-    let w = some_told f k c.in-ok-kind.ensures.kind in
+    let k = c.in_ok-kind.kind in
+    let w = some_told f k c.in_ok-kind.ensures.kind in
     let B : c.size.result ≡ size (entries k).1 =
     c.size.ensures ∙ ap (λ (t : Entry × Entry × Entry). size t.1) c.entries-second.ensures in
     let C : c.size-2.result ≡ size (entries k).2 =

@@ -5,7 +5,7 @@ use Rattle.list.proofs.ListStore.has.Goals as goal
 
 pub returns : goal.returns
 returns c = record {
-  value = λ h. c.is-some.ensures ∙ found_told _ _ _ _ h c.find.ensures;
+  value = λ h. c.is_some.ensures ∙ found_told _ _ _ _ h c.find.ensures;
   kept = λ h. h;
   facts = refl;
   spare = refl;

@@ -4,9 +4,9 @@ use Rattle.rules.proofs.Reach.{scratch, scratch_none}
 use Rattle.rules.proofs.Scopes.{above-scoped, others_scoped}
 use Rattle.rules.proofs.judge.reachers.Goals as goal
 
-pub returns-in-default : goal.returns-in-default
-returns-in-default g c = record {
-  value = λ h o. others_scoped _ o _ c.args.suspects c.in-default.not-Reachers c.in-default.not-Holders;
+pub returns-in_default : goal.returns-in_default
+returns-in_default g c = record {
+  value = λ h o. others_scoped _ o _ c.args.suspects c.in_default.not-Reachers c.in_default.not-Holders;
   sheet = scratch_none c.args.sheet.now;
   asks = asks_none g.S.Store c.args.store.now;
 }

@@ -12,4 +12,4 @@ returns-in-Some c =
     enough_at (Breaks NoCycle) c.args.change (Add f) (One f.a) at.0 (cycle_link f)
 
 pub returns : goal.returns
-returns c = cycle_none c.args.change c.in-default.ensures
+returns c = cycle_none c.args.change c.in_default.ensures

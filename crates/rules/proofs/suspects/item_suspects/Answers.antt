@@ -24,4 +24,4 @@ returns-in-Some-removed c =
 
 pub returns : goal.returns
 returns c = items_none c.args.assigned c.args.conflict c.args.change
-    c.in-default.ensures c.in-default-added.ensures c.in-default-removed.ensures
+    c.in_default.ensures c.in_default-added.ensures c.in_default-removed.ensures

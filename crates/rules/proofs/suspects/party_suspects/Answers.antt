@@ -30,5 +30,5 @@ returns-in-Some-added-3 c =
     enough_at (Breaks PartiesApart) c.args.change (Add f) (Holders f.a) at.0 (parties_conflict f at.1)
 
 pub returns : goal.returns
-returns c = parties_none c.args.change c.in-default.ensures c.in-default-added.ensures
-    c.in-default-added-2.ensures c.in-default-added-3.ensures
+returns c = parties_none c.args.change c.in_default.ensures c.in_default-added.ensures
+    c.in_default-added-2.ensures c.in_default-added-3.ensures

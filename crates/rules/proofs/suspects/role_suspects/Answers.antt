@@ -18,4 +18,4 @@ returns-in-Some-added c =
     enough_at (Breaks RolesApart) c.args.change (Add f) (Reachers f.a) at.0 (roles_added f)
 
 pub returns : goal.returns
-returns c = roles_none c.args.change c.in-default.ensures c.in-default-added.ensures
+returns c = roles_none c.args.change c.in_default.ensures c.in_default-added.ensures

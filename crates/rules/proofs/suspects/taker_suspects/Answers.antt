@@ -24,8 +24,8 @@ returns-in-Some-added-2 c =
     enough_at (Breaks TakersApart) c.args.change (Add f) (TakenBy f.a) at.0 (tasks_users f at.1)
 
 pub returns : goal.returns
-returns c = tasks_none c.args.change c.in-default.ensures c.in-default-added.ensures
-    c.in-default-added-2.ensures c.in-default-added-3.ensures
+returns c = tasks_none c.args.change c.in_default.ensures c.in_default-added.ensures
+    c.in_default-added-2.ensures c.in_default-added-3.ensures
 
 pub returns-in-Some-added-3 : goal.returns-in-Some-added-3
 returns-in-Some-added-3 c = all_enough (Breaks TakersApart) c.args.change

@@ -92,7 +92,7 @@ loop-role-preserved g c =
 pub returns : goal.returns
 returns g c =
     let i = c.loop-role.invariant in
-    let ended = c.in-default.ensures in
+    let ended = c.in_default.ensures in
     let b = c.loop-role.sheet in
     let P = Among c.args.first.now in
     record {

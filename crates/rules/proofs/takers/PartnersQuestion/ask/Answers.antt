@@ -4,13 +4,13 @@ use Rattle.rules.specs.Tasks.{Open, AtOdds, HasTaken}
 use Rattle.rules.proofs.Frame.{asks_on, finds_both}
 use Rattle.rules.proofs.takers.PartnersQuestion.ask.Goals as goal
 
-pub returns-then-has-taken : goal.returns-then-has-taken
-returns-then-has-taken g c =
+pub returns-then-has_taken : goal.returns-then-has_taken
+returns-then-has_taken g c =
     let q = c.args.self.now in
     let n = c.args.n in
     record {
       value = finds_both g.S.Store c.args.change (λ m. HasTaken m q.case q.task n)
           (λ m. Party m q.user n)
-          c.party.result c.has-taken.ensures.asks c.if-has-taken.ensures.value c.party.ensures.value;
-      asks = asks_on g.S.Store c.has-taken.ensures.asks c.party.ensures.asks;
+          c.party.result c.has_taken.ensures.asks c.if-has_taken.ensures.value c.party.ensures.value;
+      asks = asks_on g.S.Store c.has_taken.ensures.asks c.party.ensures.asks;
     }
