@@ -1,8 +1,7 @@
 // Keeps a small release in a grid under a cache, in a list, and in a list under two caches, and tells what each call
-// answers: the same in all three. Then tells of a role network who holds what, and which rule a change would break.
+// answers: the same in all three.
 #![tactic(auto)]
 
-mod network;
 mod runs;
 mod step;
 mod words;
@@ -11,7 +10,6 @@ use cache::Cache;
 use facts::fact::{Fact, Kind};
 use grid::Grid;
 use list::List;
-use network::show_network;
 use runs::{keep_release, keep_remembered, show};
 use std::io;
 use step::Step;
@@ -47,9 +45,5 @@ fn main(rt: HostRuntime) -> io::Result<()> {
         &rt,
         &mut narrow,
         Step::Put(Fact::new(Kind::OpenCase, 0, 0, 0)),
-    )?;
-
-    println!(rt; "a role network in a grid under a cache")?;
-    let mut network = Cache::new(Grid::new(bytes.as_mut_slice()));
-    show_network(&rt, &mut network)
+    )
 }

@@ -88,11 +88,11 @@ const RELEASE: [Step; 15] = [
 
 // Runs one step, and tells what it answers.
 pub(crate) fn show<S: Store>(rt: &HostRuntime, store: &mut S, step: Step) -> io::Result<()>
-    ensures does { sound store.old
-        → (a : Answer) × Does step (facts store.old) (spare store.old) a
-        (facts store.new) (spare store.new) }
-    ensures kept { sound store.old → sound store.new }
-    ensures outside { outside store.old store.new }
+    ensures does { S.sound store.old
+        → (a : Answer) × Does step (S.facts store.old) (S.spare store.old) a
+        (S.facts store.new) (S.spare store.new) }
+    ensures kept { S.sound store.old → S.sound store.new }
+    ensures outside { S.outside store.old store.new }
 {
     let answer = step.run(store);
     println!(rt; "  {step}: {answer}")
@@ -100,8 +100,8 @@ pub(crate) fn show<S: Store>(rt: &HostRuntime, store: &mut S, step: Step) -> io:
 
 // Runs the steps one after the other.
 fn play<S: Store>(rt: &HostRuntime, store: &mut S, steps: &[Step]) -> io::Result<()>
-    ensures kept { sound store.old → sound store.new }
-    ensures outside { outside store.old store.new }
+    ensures kept { S.sound store.old → S.sound store.new }
+    ensures outside { S.outside store.old store.new }
 {
     for step in steps {
         show(rt, store, *step)?;
@@ -111,8 +111,8 @@ fn play<S: Store>(rt: &HostRuntime, store: &mut S, steps: &[Step]) -> io::Result
 
 // Keeps the release in a store, and tells how far its spare fell.
 pub(crate) fn keep_release<S: Store>(rt: &HostRuntime, store: &mut S) -> io::Result<()>
-    ensures kept { sound store.old → sound store.new }
-    ensures outside { outside store.old store.new }
+    ensures kept { S.sound store.old → S.sound store.new }
+    ensures outside { S.outside store.old store.new }
 {
     let before = store.spare();
     play(rt, store, &RELEASE)?;
@@ -136,8 +136,8 @@ fn recollect<S: Store>(rt: &HostRuntime, cache: &Cache<S>, fact: Fact) -> io::Re
 
 // The same over a cache, and then what the cache remembers.
 pub(crate) fn keep_remembered<S: Store>(rt: &HostRuntime, store: &mut Cache<S>) -> io::Result<()>
-    ensures kept { Faithful sound facts store.old → Faithful sound facts store.new }
-    ensures outside { outside store.old.below store.new.below }
+    ensures kept { Faithful S.sound S.facts store.old → Faithful S.sound S.facts store.new }
+    ensures outside { S.outside store.old.below store.new.below }
 {
     keep_release(rt, store)?;
     recollect(rt, store, ASSIGNED)?;

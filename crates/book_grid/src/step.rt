@@ -25,11 +25,11 @@ pub enum Answer {
 
 impl Step {
     pub(crate) fn run<S: Store>(self, store: &mut S) -> Answer
-        ensures kept { sound store.old → sound store.new }
-        ensures outside { outside store.old store.new }
-        ensures does { sound store.old
-            → Does self (facts store.old) (spare store.old) result
-            (facts store.new) (spare store.new) }
+        ensures kept { S.sound store.old → S.sound store.new }
+        ensures outside { S.outside store.old store.new }
+        ensures does { S.sound store.old
+            → Does self (S.facts store.old) (S.spare store.old) result
+            (S.facts store.new) (S.spare store.new) }
     {
         match self {
             Step::Put(fact) => match store.put(fact) {

@@ -26,7 +26,7 @@ pub(crate) fn any<S: Store, Q: Question>(
     end: u8,
 ) -> bool
     ensures value { Finds S.Store store.old change
-        (λ m. Decides result ((n : ℕ) × (n < end) × says question.now m n)) }
+        (λ m. Decides result ((n : ℕ) × (n < end) × Q.says question.now m n)) }
     ensures asks { Asks S.Store store.old store.new }
 {
     for n in 0..end {
@@ -39,7 +39,7 @@ pub(crate) fn any<S: Store, Q: Question>(
 
 // The roles that answer yes.
 pub(crate) fn collect<S: Store, Q: Question>(store: &mut S, change: Change, question: &Q) -> RoleSet
-    ensures value { Finds S.Store store.old change (λ m. Exactly result (says question.now m)) }
+    ensures value { Finds S.Store store.old change (λ m. Exactly result (Q.says question.now m)) }
     ensures asks { Asks S.Store store.old store.new }
 {
     let mut members = [false; 64];

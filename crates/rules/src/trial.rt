@@ -29,7 +29,7 @@ pub(crate) fn some<S: Store, T: Trial>(
 ) -> bool
     requires { 64 ≤ length sheet.old }
     ensures value { Finds S.Store store.old change
-        (λ m. Decides result ((n : ℕ) × (n < end) × shows trial.now m n)) }
+        (λ m. Decides result ((n : ℕ) × (n < end) × T.shows trial.now m n)) }
     ensures sheet { Scratch sheet.old sheet.new }
     ensures asks { Asks S.Store store.old store.new }
 {

@@ -96,7 +96,7 @@ fn walk<S: Store, G: Question>(
 ) -> bool
     requires { 64 ≤ length sheet.old }
     ensures value { Finds S.Store store.old change (λ m. Decides result
-        (Leads (Linked way m) (Among first.now) (says goal.now m))) }
+        (Leads (Linked way m) (Among first.now) (G.says goal.now m))) }
     ensures marks { result ≡ false → Finds S.Store store.old change (λ m.
         Walked (Linked way m) (Among first.now) sheet.new) }
     ensures sheet { Swept sheet.old sheet.new }
@@ -126,7 +126,7 @@ pub(crate) fn leads<S: Store, A: Question, G: Question>(
 ) -> bool
     requires { 64 ≤ length sheet.old }
     ensures value { Finds S.Store store.old change (λ m. Decides result
-        (Leads (Link m) (A.Question.says start.now m) (G.Question.says goal.now m))) }
+        (Leads (Link m) (A.says start.now m) (G.says goal.now m))) }
     ensures sheet { Swept sheet.old sheet.new }
     ensures asks { Asks S.Store store.old store.new }
 {
@@ -156,7 +156,7 @@ pub(crate) fn roles_from<S: Store, A: Question>(
 ) -> RoleSet
     requires { 64 ≤ length sheet.old }
     ensures value { Finds S.Store store.old change (λ m.
-        Exactly result (From (Linked way m) (says start.now m))) }
+        Exactly result (From (Linked way m) (A.says start.now m))) }
     ensures sheet { Swept sheet.old sheet.new }
     ensures asks { Asks S.Store store.old store.new }
 {

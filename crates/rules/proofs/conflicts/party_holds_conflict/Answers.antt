@@ -16,8 +16,8 @@ returns-then-meet g c =
     let st = g.S.Store in
     let k = c.args.change in
     let u = c.args.user in
-    let x = c.held-by-held.result in
-    let e = c.held-by-held.ensures in
+    let x = c.held_by-held.result in
+    let e = c.held_by-held.ensures in
     record {
       value = λ h o.
           let m = after (st.facts c.args.store.now) k in
@@ -34,8 +34,8 @@ returns g c =
     let st = g.S.Store in
     let k = c.args.change in
     let u = c.args.user in
-    let x = c.held-by-held.result in
-    let e = c.held-by-held.ensures in
+    let x = c.held_by-held.result in
+    let e = c.held_by-held.ensures in
     let a = asks_on st e.asks c.meet.ensures.asks in
     let found : Facts → Type 0 = λ m. (v : ℕ) × (v < 128) × (Conflict UserConflict m u v × Meet (Among x) (Holds m v) true m) in
     record {

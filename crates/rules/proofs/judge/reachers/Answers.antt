@@ -13,9 +13,9 @@ returns-in_default g c = record {
 
 pub returns-in-Reachers : goal.returns-in-Reachers
 returns-in-Reachers g c =
-    let e = c.roles-from.ensures in
+    let e = c.roles_from.ensures in
     record {
-      value = λ h o. above-scoped _ o c.roles-from.result c.in-Reachers.role (e.value h o) c.args.suspects
+      value = λ h o. above-scoped _ o c.roles_from.result c.in-Reachers.role (e.value h o) c.args.suspects
           c.in-Reachers.is;
       sheet = scratch _ _ e.sheet;
       asks = e.asks;

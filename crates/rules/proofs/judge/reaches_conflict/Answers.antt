@@ -15,8 +15,8 @@ pub returns : goal.returns
 returns g c =
     let st = g.S.Store in
     let k = c.args.change in
-    let x = c.roles-from-reached.result in
-    let e = c.roles-from-reached.ensures in
+    let x = c.roles_from-reached.result in
+    let e = c.roles_from-reached.ensures in
     let b = c.meet.result in
     let P : Facts → ℕ → Type 0 = λ m. From (Link m) (λ s. s ≡ c.args.role) in
     record {
