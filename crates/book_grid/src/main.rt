@@ -4,7 +4,6 @@
 
 mod runs;
 mod step;
-mod words;
 
 use cache::Cache;
 use facts::fact::{Fact, Kind};

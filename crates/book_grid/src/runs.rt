@@ -5,11 +5,11 @@ ghost use Rattle.book_grid.specs.Steps.{Does};
 ghost use Rattle.book_grid.specs.declared.step.Answer.{Answer};
 
 use crate::step::Step;
-use crate::words::InWords;
 use cache::Cache;
 use facts::fact::{Fact, Kind};
 use facts::store::Store;
 use std::io;
+use words::InWords;
 
 const ASSIGNED: Fact = Fact {
     kind: Kind::UserRole as u8,

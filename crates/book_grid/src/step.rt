@@ -1,11 +1,11 @@
 // One call of a store as a value, and what came of it.
 ghost use Rattle.book_grid.specs.Steps.{Does};
 
-use crate::words::InWords;
 use facts::fact::Fact;
 use facts::refusal::Refusal;
 use facts::store::Store;
 use std::fmt;
+use words::InWords;
 
 #[derive(Clone, Copy)]
 pub enum Step {

@@ -1,9 +1,8 @@
-use Rattle.std.proofs.Common.{◌≡◌, ℕ, ◌<◌, ◌≤◌, min, max, Bool, true, false, not, ◌⊎◌, sym, refl, ap, ◌∙◌, subst, inl, inr, ⊎_elim, arith}
+use Rattle.std.proofs.Common.{◌≡◌, ℕ, ◌<◌, ◌≤◌, min, max, Bool, true, false, not, sym, refl, subst, inl, inr, arith}
 use Rattle.facts.specs.declared.fact.Kind.{Kind}
 use Rattle.facts.specs.declared.fact.Kind.TheVariants.{UserRole, PermissionRole, TaskRole, Senior, Taken}
 use Rattle.facts.specs.declared.fact.Kind.TheVariants.{UserConflict, RoleConflict, PermissionConflict, TaskConflict}
-use Rattle.facts.specs.declared.fact.Fact.{Fact}
-use Rattle.facts.specs.Facts.{Facts, Not, In, number, fact, size, entries}
+use Rattle.facts.specs.Facts.{Facts, Not, size, entries}
 use Rattle.facts.specs.Stores.{Only, Decides}
 use Rattle.facts.proofs.Sets.{not_in, cases_in}
 use Rattle.std.proofs.lemmas.Bool.{both_ways}
@@ -12,7 +11,7 @@ use Rattle.rules.specs.declared.rule.Rule.{Rule}
 use Rattle.rules.specs.declared.rule.Rule.TheVariants.{NoCycle, RolesApart, PartiesApart, PermissionsApart, TasksApart, TakersApart}
 use Rattle.rules.specs.declared.walk.Way.TheVariants.{Down}
 use Rattle.rules.specs.Asking.{Among, Exactly}
-use Rattle.rules.specs.Roles.{pair, Link, Chain, same, down, Reaches, Assigned, Holds, Conflict, Party}
+use Rattle.rules.specs.Roles.{pair, Link, same, down, Reaches, Assigned, Holds, Conflict, Party}
 use Rattle.rules.specs.Tasks.{Open, AtOdds, HasTaken}
 use Rattle.rules.specs.Rules.{Apart, Keeps}
 use Rattle.rules.specs.Judging.{Meet, Paired, Mixed, HoldBoth, Breaks, subjects}

@@ -2,7 +2,7 @@ use Rattle.std.proofs.Common.{ℕ, inl, inr}
 use Rattle.facts.specs.Facts.{Facts, fact, number}
 use Rattle.facts.specs.declared.fact.Kind.TheVariants.{UserRole, PermissionRole, Senior, UserConflict}
 use Rattle.rules.specs.Asking.{Among}
-use Rattle.rules.specs.Roles.{pair, Link, Chain, same, down, Reaches, Above, Holds, Carries, Party}
+use Rattle.rules.specs.Roles.{pair, Link, same, down, Reaches, Holds, Carries, Party}
 use Rattle.rules.specs.Closing.{Transitive, ClosedUnderLinks, Grows, AddingKeeps, SeparateByRules}
 use Rattle.rules.proofs.Marks.{chain_on, closed_under}
 

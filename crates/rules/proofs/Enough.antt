@@ -1,18 +1,18 @@
-use Rattle.std.proofs.Common.{◌≡◌, ℕ, ◌<◌, Bool, true, false, ◌⊎◌, sym, refl, ap, ◌∙◌, subst, inl, inr, ⊎_elim, arith}
+use Rattle.std.proofs.Common.{◌≡◌, ℕ, ◌<◌, ◌⊎◌, sym, ◌∙◌, subst, inl, inr, ⊎_elim, arith}
 use Rattle.facts.specs.declared.fact.Kind.{Kind}
 use Rattle.facts.specs.declared.fact.Kind.TheVariants.{UserRole, Senior, UserConflict, RoleConflict, OpenCase, Taken}
 use Rattle.facts.specs.declared.fact.Kind.TheVariants.{AtOdds as odds-kind}
 use Rattle.facts.specs.declared.fact.Fact.{Fact}
-use Rattle.facts.specs.Facts.{Not, Facts, In, number, fact, with}
+use Rattle.facts.specs.Facts.{Not, Facts, In, number, fact}
 use Rattle.rules.specs.declared.change.Change.{Change}
-use Rattle.rules.specs.declared.change.Change.TheVariants.{Nothing, Add, Remove}
+use Rattle.rules.specs.declared.change.Change.TheVariants.{Add, Remove}
 use Rattle.rules.specs.declared.rule.Rule.{Rule}
 use Rattle.rules.specs.declared.rule.Rule.TheVariants.{NoCycle, RolesApart, PartiesApart, TakersApart}
 use Rattle.rules.specs.declared.suspects.Suspects.{Suspects}
 use Rattle.rules.specs.declared.suspects.Suspects.TheVariants.{All, Nobody, One, Reachers, Holders, Items, TakenBy}
 use Rattle.rules.specs.Changes.{after}
-use Rattle.rules.specs.Roles.{Link, Reaches, Assigned, Holds, Conflict}
-use Rattle.rules.specs.Tasks.{Open, AtOdds, HasTaken}
+use Rattle.rules.specs.Roles.{Reaches, Assigned, Holds, Conflict}
+use Rattle.rules.specs.Tasks.{Open, HasTaken}
 use Rattle.rules.specs.Judging.{Suspected, EnoughBy, Enough, EnoughItems, GainsNone, LosesNone}
 use Rattle.rules.proofs.Broken.{breaking}
 use Rattle.rules.proofs.Gains.{gains_other, gains_removed, loses_added, first_gained, second_gained, pair_gained, pair_lost}

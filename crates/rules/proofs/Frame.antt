@@ -1,4 +1,4 @@
-use Rattle.std.proofs.Common.{◌≡◌, Bool, sym, refl, ◌∙◌, subst}
+use Rattle.std.proofs.Common.{Bool, sym, refl, ◌∙◌, subst}
 use Rattle.facts.specs.declared.store.Store.{Ghosts}
 use Rattle.facts.specs.Facts.{Facts}
 use Rattle.facts.specs.Stores.{Only, Decides}

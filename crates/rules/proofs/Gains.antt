@@ -1,9 +1,6 @@
-use Rattle.std.proofs.Common.{◌≡◌, ℕ, ◌<◌, ◌≤◌, min, max, Bool, true, false, ◌⊎◌, sym, refl, ap, ◌∙◌, subst, inl, inr, ⊎_elim, arith}
+use Rattle.std.proofs.Common.{◌≡◌, ℕ, ◌<◌, ◌≤◌, min, max, true, false, ◌⊎◌, sym, ap, ◌∙◌, subst, inl, inr, ⊎_elim, arith}
 use Rattle.std.proofs.lemmas.Bool.{cases_Bool, cases_lt, cond-true, false≢true}
 use Rattle.facts.specs.declared.fact.Kind.{Kind}
-use Rattle.facts.specs.declared.fact.Kind.TheVariants.{UserRole, PermissionRole, TaskRole, Senior}
-use Rattle.facts.specs.declared.fact.Kind.TheVariants.{UserConflict, RoleConflict, OpenCase, Taken}
-use Rattle.facts.specs.declared.fact.Kind.TheVariants.{AtOdds as odds-kind}
 use Rattle.facts.specs.declared.fact.Fact.{Fact}
 use Rattle.facts.specs.Facts.{Not, Facts, In, number, fact, with, same_fact}
 use Rattle.facts.specs.Stores.{IsFact, Only}

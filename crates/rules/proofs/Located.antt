@@ -1,14 +1,13 @@
-use Rattle.std.proofs.Common.{◌≡◌, ℕ, min, max, Bool, true, false, ◌⊎◌, sym, refl, ap, ◌∙◌, subst, inl, inr, ⊎_elim, arith}
+use Rattle.std.proofs.Common.{◌≡◌, ℕ, min, max, ◌⊎◌, sym, ap, ◌∙◌, inl, inr, ⊎_elim, arith}
 use Rattle.facts.specs.declared.fact.Kind.{Kind}
 use Rattle.facts.specs.declared.fact.Kind.TheVariants.{UserRole, UserConflict, RoleConflict}
 use Rattle.facts.specs.declared.fact.Kind.TheVariants.{AtOdds as odds-kind}
-use Rattle.facts.specs.declared.fact.Fact.{Fact}
-use Rattle.facts.specs.Facts.{Not, Facts, In, number, fact}
+use Rattle.facts.specs.Facts.{Facts, number, fact}
 use Rattle.facts.proofs.Sets.{cases_in}
-use Rattle.rules.specs.declared.rule.Rule.TheVariants.{NoCycle, RolesApart, PartiesApart, TakersApart}
-use Rattle.rules.specs.Roles.{pair, Link, Chain, same, down, Reaches, Above, Assigned, Holds, Conflict, Party}
+use Rattle.rules.specs.declared.rule.Rule.TheVariants.{RolesApart, PartiesApart, TakersApart}
+use Rattle.rules.specs.Roles.{pair, Link, same, down, Reaches, Above, Assigned, Holds, Conflict, Party}
 use Rattle.rules.specs.Tasks.{Open, AtOdds, HasTaken}
-use Rattle.rules.specs.Judging.{Mixed, HoldBoth, Breaks}
+use Rattle.rules.specs.Judging.{Mixed, Breaks}
 use Rattle.rules.proofs.Marks.{chain_on}
 
 -- a pair may be named in either order

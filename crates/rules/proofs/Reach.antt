@@ -4,9 +4,9 @@ use Rattle.facts.specs.declared.fact.Kind.TheVariants.{UserRole, PermissionRole,
 use Rattle.facts.specs.Facts.{Facts}
 use Rattle.facts.specs.Stores.{Only, Decides}
 use Rattle.rules.specs.declared.role_set.RoleSet.{RoleSet}
-use Rattle.rules.specs.Asking.{Among, Exactly}
+use Rattle.rules.specs.Asking.{Exactly}
 use Rattle.rules.specs.Calls.{Scratch}
-use Rattle.rules.specs.Roles.{Link, Chain, same, down, Reaches, Above, Assigned, Holds, Carries, Has}
+use Rattle.rules.specs.Roles.{Link, same, Reaches, Above, Assigned, Holds, Has}
 use Rattle.rules.specs.Walks.{From, Leads, Swept}
 use Rattle.rules.proofs.Decided.{decides_as, exactly_as}
 use Rattle.rules.proofs.Marks.{chain_on}

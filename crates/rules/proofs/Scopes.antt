@@ -1,17 +1,16 @@
 use Rattle.std.proofs.Common.{◌≡◌, ℕ, ◌<◌, ◌⊎◌, sym, refl, subst, inl, inr}
 use Rattle.facts.specs.declared.fact.Kind.TheVariants.{UserRole, Taken}
 use Rattle.facts.specs.Facts.{Not, Facts}
-use Rattle.facts.specs.Stores.{Only, Decides}
+use Rattle.facts.specs.Stores.{Only}
 use Rattle.rules.specs.declared.role_set.RoleSet.{RoleSet}
-use Rattle.rules.specs.declared.rule.Rule.{Rule}
 use Rattle.rules.specs.declared.suspects.Suspects.{Suspects}
 use Rattle.rules.specs.declared.suspects.Suspects.TheVariants.{All, Nobody, One, Reachers, Holders, Items, TakenBy}
 use Rattle.rules.specs.declared.walk.Way.TheVariants.{Up}
 use Rattle.rules.specs.Asking.{Among, Exactly}
 use Rattle.rules.specs.Roles.{Link, Chain, same, down, Reaches}
 use Rattle.rules.specs.Walks.{Linked, From}
-use Rattle.rules.specs.Judging.{Suspected, InScope, Scoped}
-use Rattle.rules.proofs.Broken.{reached_role, held_role}
+use Rattle.rules.specs.Judging.{Scoped}
+use Rattle.rules.proofs.Broken.{reached_role}
 use Rattle.rules.proofs.Marks.{chain_more}
 use Rattle.rules.proofs.Ranged.{ranged_in, ranged_pair}
 

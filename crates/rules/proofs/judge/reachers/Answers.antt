@@ -1,4 +1,3 @@
-use Rattle.rules.specs.Changes.{after}
 use Rattle.rules.proofs.Frame.{asks_none}
 use Rattle.rules.proofs.Reach.{scratch, scratch_none}
 use Rattle.rules.proofs.Scopes.{above-scoped, others_scoped}

@@ -1,5 +1,4 @@
 use Rattle.std.proofs.Common.{◌<◌, false, length, arith, length-set}
-use Rattle.facts.specs.Facts.{Facts}
 use Rattle.facts.specs.Stores.{Decides}
 use Rattle.rules.specs.Changes.{after}
 use Rattle.rules.proofs.Decided.{exactly_from, written_more}

@@ -1,8 +1,6 @@
-use Rattle.std.proofs.Common.{◌≡◌, Bool, true, false, refl}
-use Rattle.std.proofs.lemmas.Bool.{cases_Bool}
-use Rattle.facts.specs.Facts.{Facts, Not}
+use Rattle.std.proofs.Common.{◌≡◌, false}
 use Rattle.facts.specs.Stores.{Decides}
-use Rattle.rules.specs.Asking.{Finds, Among}
+use Rattle.rules.specs.Asking.{Among}
 use Rattle.rules.specs.Changes.{after}
 use Rattle.rules.specs.Walks.{Linked, Leads, Walked}
 use Rattle.rules.proofs.Decided.{no_from}

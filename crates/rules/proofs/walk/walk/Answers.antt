@@ -1,7 +1,7 @@
-use Rattle.std.proofs.Common.{◌≡◌, ℕ, ◌<◌, ◌≤◌, Bool, false, ◌≢◌, length, get_or, refl, ◌∙◌, arith}
+use Rattle.std.proofs.Common.{ℕ, ◌≤◌, Bool, false, ◌≢◌, length, get_or, refl, ◌∙◌, arith}
 use Rattle.std.proofs.lemmas.List.{get_or-set_other}
 use Rattle.std.proofs.lemmas.Bool.{true≢false}
-use Rattle.facts.specs.Facts.{Facts, Not}
+use Rattle.facts.specs.Facts.{Not}
 use Rattle.rules.specs.declared.role_set.RoleSet.{RoleSet}
 use Rattle.rules.specs.Asking.{Among, Exactly}
 use Rattle.rules.specs.Changes.{after}

@@ -1,6 +1,5 @@
-use Rattle.std.proofs.Common.{ℕ}
 use Rattle.rules.specs.Changes.{after}
-use Rattle.rules.specs.Judging.{Breaks, Suspected}
+use Rattle.rules.specs.Judging.{Suspected}
 use Rattle.rules.proofs.Broken.{decides_kept}
 use Rattle.rules.proofs.judge.Judgement.kept.Goals as goal
 

@@ -1,6 +1,5 @@
-use Rattle.std.proofs.Common.{ℕ, ◌<◌}
 use Rattle.rules.specs.Roles.{Party}
-use Rattle.rules.specs.Tasks.{Open, AtOdds, HasTaken}
+use Rattle.rules.specs.Tasks.{HasTaken}
 use Rattle.rules.proofs.Frame.{asks_on, finds_both}
 use Rattle.rules.proofs.takers.PartnersQuestion.ask.Goals as goal
 

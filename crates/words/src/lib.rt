@@ -1,6 +1,8 @@
 // A fact as a sentence.
+#![tactic(auto)]
+
 ghost use Rattle.std.specs.Prelude.{◌≡◌};
-ghost use Rattle.book_grid.specs.Words.{noun};
+ghost use Rattle.words.specs.Words.{noun};
 
 use facts::fact::{Entry, Fact, Kind};
 use std::fmt;

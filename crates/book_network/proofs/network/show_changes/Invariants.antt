@@ -1,0 +1,5 @@
+use Rattle.rules.specs.Asking.{Asks}
+use Rattle.book_network.proofs.network.show_changes.Given as goal
+
+abbrev pub invariant-loop-added : goal.invariant-loop-added
+invariant-loop-added g l = Asks g.S.Store l.initial.store l.store
