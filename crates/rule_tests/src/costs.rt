@@ -24,6 +24,15 @@ fn judged<S: Store>(store: &mut Counting<S>, kind: Kind, a: u8, b: u8) -> u64 {
     store.asked().saturating_sub(before)
 }
 
+// A counting store has the lower store's most, as its constant and by its call.
+#[test]
+fn the_most_stays(rt: HostRuntime) {
+    assert_eq!(rt;
+        (Counting::<List>::MOST, Counting::<List>::most_facts()),
+        (4_096, 4_096)
+    );
+}
+
 // In a chain of four roles, with permission 5 at the third of them. A walk goes on from each role once, by 64 look-ups.
 #[test]
 fn walks(rt: HostRuntime) {
