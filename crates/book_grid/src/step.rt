@@ -17,25 +17,19 @@ pub enum Step {
 
 #[derive(Clone, Copy)]
 pub enum Answer {
-    Accepted,
-    Refused(Refusal),
+    Put(Result<(), Refusal>),
     Is(bool),
     Taken,
 }
 
 impl Step {
     pub(crate) fn run<S: Store>(self, store: &mut S) -> Answer
-        ensures kept { S.sound store.old → S.sound store.new }
         ensures outside { S.outside store.old store.new }
-        ensures does { S.sound store.old
-            → Does self (S.facts store.old) (S.spare store.old) result
+        ensures does { Does self (S.facts store.old) (S.spare store.old) result
             (S.facts store.new) (S.spare store.new) }
     {
         match self {
-            Step::Put(fact) => match store.put(fact) {
-                Ok(_) => Answer::Accepted,
-                Err(refusal) => Answer::Refused(refusal),
-            },
+            Step::Put(fact) => Answer::Put(store.put(fact)),
             Step::Has(fact) => Answer::Is(store.has(fact)),
             Step::Take(fact) => {
                 store.take(fact);
@@ -60,8 +54,8 @@ impl fmt::Display for Step {
 impl fmt::Display for Answer {
     fn fmt<W: fmt::Write>(&self, f: &mut fmt::Formatter<W>) -> fmt::Result {
         match *self {
-            Answer::Accepted => write!(f, "accepted"),
-            Answer::Refused(refusal) => write!(f, "refused, {}", refusal.number()),
+            Answer::Put(Ok(_)) => write!(f, "accepted"),
+            Answer::Put(Err(refusal)) => write!(f, "refused, {}", u8::from(refusal)),
             Answer::Is(true) => write!(f, "yes"),
             Answer::Is(false) => write!(f, "no"),
             Answer::Taken => write!(f, "done"),

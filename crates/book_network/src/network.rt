@@ -1,4 +1,6 @@
 // The role network of a release: who holds which roles and has which permissions, and which rule a change would break.
+ghost use Rattle.std.specs.Prelude.{◌≡◌};
+ghost use Rattle.facts.specs.Facts.{number, fact};
 ghost use Rattle.rules.specs.Asking.{Asks};
 
 use facts::fact::{Fact, Kind};
@@ -28,16 +30,39 @@ const NETWORK: [(Kind, u8, u8); 13] = [
     (Kind::UserRole, 21, 1),
 ];
 
-const CHANGES: [(bool, Kind, u8, u8); 8] = [
-    (true, Kind::Senior, 1, 4),
-    (true, Kind::Senior, 4, 3),
-    (true, Kind::UserRole, 20, 3),
-    (true, Kind::UserRole, 21, 3),
-    (true, Kind::UserRole, 22, 3),
-    (false, Kind::RoleConflict, 2, 3),
-    (true, Kind::TaskConflict, 5, 7),
-    (true, Kind::UserRole, 128, 1),
-];
+fn pair(kind: Kind, a: u8, b: u8) -> Fact
+    ensures { result ≡ fact (number kind) a b 0 }
+{
+    Fact::new(kind, a, b, 0)
+}
+
+// What could be done to the network, for good or ill.
+fn changes() -> [Change; 8] {
+    [
+        Change::Add(pair(Kind::Senior, 1, 4)),
+        Change::Add(pair(Kind::Senior, 4, 3)),
+        Change::Add(pair(Kind::UserRole, 20, 3)),
+        Change::Add(pair(Kind::UserRole, 21, 3)),
+        Change::Add(pair(Kind::UserRole, 22, 3)),
+        Change::Remove(pair(Kind::RoleConflict, 2, 3)),
+        Change::Add(pair(Kind::TaskConflict, 5, 7)),
+        Change::Add(pair(Kind::UserRole, 128, 1)),
+    ]
+}
+
+// A change as the start of a sentence.
+#[derive(Clone, Copy)]
+struct Doing(Change);
+
+impl fmt::Display for Doing {
+    fn fmt<W: fmt::Write>(&self, f: &mut fmt::Formatter<W>) -> fmt::Result {
+        match self.0 {
+            Change::Nothing => write!(f, "changing nothing"),
+            Change::Add(fact) => write!(f, "adding: {}", InWords(fact)),
+            Change::Remove(fact) => write!(f, "removing: {}", InWords(fact)),
+        }
+    }
+}
 
 // A rule as a sentence.
 #[derive(Clone, Copy)]
@@ -60,109 +85,79 @@ impl fmt::Display for Says {
 }
 
 fn load<S: Store>(store: &mut S)
-    ensures kept { S.sound store.old → S.sound store.new }
-    ensures outside { S.outside store.old store.new }
+    ensures { S.outside store.old store.new }
 {
     for (kind, a, b) in NETWORK {
-        let _ = store.put(Fact::new(kind, a, b, 0));
+        let _ = store.put(pair(kind, a, b));
     }
 }
 
-fn show_roles<S: Store>(
-    rt: &HostRuntime,
-    store: &mut S,
-    user: u32,
-    sheet: &mut [u8],
-) -> io::Result<()>
+fn show_roles<S: Store>(rt: &impl Print, store: &mut S, user: u32) -> io::Result<()>
     ensures { Asks S.Store store.old store.new }
 {
-    let Ok(roles) = roles_held(store, user, sheet) else {
+    let Ok(roles) = roles_held(store, user, &mut [0; 64]) else {
         return println!(rt; "  no user {user}");
     };
-    for role in 0..64u32 {
-        if roles.contains(role) {
-            println!(rt; "  user {user} holds role {role}")?;
-        }
+    for role in (0..64u32).filter(|role| roles.contains(*role)) {
+        println!(rt; "  user {user} holds role {role}")?;
     }
     Ok(())
 }
 
-fn show_permissions<S: Store>(
-    rt: &HostRuntime,
-    store: &mut S,
-    user: u32,
-    sheet: &mut [u8],
-) -> io::Result<()>
+#[tactic(auto, using(rules::proofs::Frame::asks_on))]
+fn show_permissions<S: Store>(rt: &impl Print, store: &mut S, user: u32) -> io::Result<()>
     ensures { Asks S.Store store.old store.new }
 {
     for permission in 0..64u32 {
-        if let Ok(true) = has_permission(store, user, permission, sheet) {
+        if let Ok(true) = has_permission(store, user, permission, &mut [0; 64]) {
             println!(rt; "  user {user} has permission {permission}")?;
         }
     }
     Ok(())
 }
 
-fn show_verdict<S: Store>(
-    rt: &HostRuntime,
-    store: &mut S,
-    change: Change,
-    sheet: &mut [u8],
-) -> io::Result<()>
+fn show_verdict<S: Store>(rt: &impl Print, store: &mut S, change: Change) -> io::Result<()>
     ensures { Asks S.Store store.old store.new }
 {
-    match judge(store, change, sheet) {
+    match judge(store, change, &mut [0; 64]) {
         Ok(None) => println!(rt; "breaks no rule"),
-        Ok(Some(rule)) => println!(rt; "breaks rule {}, {}", rule.number(), Says(rule)),
-        Err(refusal) => println!(rt; "refused, {}", refusal.number()),
+        Ok(Some(rule)) => println!(rt; "breaks rule {}, {}", u8::from(rule), Says(rule)),
+        Err(refusal) => println!(rt; "refused, {}", u8::from(refusal)),
     }
 }
 
-fn show_change<S: Store>(
-    rt: &HostRuntime,
-    store: &mut S,
-    added: bool,
-    fact: Fact,
-    sheet: &mut [u8],
-) -> io::Result<()>
+fn show_change<S: Store>(rt: &impl Print, store: &mut S, change: Change) -> io::Result<()>
     ensures { Asks S.Store store.old store.new }
 {
-    let change = if added {
-        Change::Add(fact)
-    } else {
-        Change::Remove(fact)
-    };
-    let verb = if added { "adding" } else { "removing" };
-    print!(rt; "  {verb}: {}: ", InWords(fact))?;
-    show_verdict(rt, store, change, sheet)
+    print!(rt; "  {}: ", Doing(change))?;
+    show_verdict(rt, store, change)
 }
 
-fn show_users<S: Store>(rt: &HostRuntime, store: &mut S, sheet: &mut [u8]) -> io::Result<()>
+#[tactic(auto, using(rules::proofs::Frame::asks_on))]
+fn show_users<S: Store>(rt: &impl Print, store: &mut S) -> io::Result<()>
     ensures { Asks S.Store store.old store.new }
 {
     for user in 20..23u32 {
-        show_roles(rt, store, user, sheet)?;
-        show_permissions(rt, store, user, sheet)?;
+        show_roles(rt, store, user)?;
+        show_permissions(rt, store, user)?;
     }
     Ok(())
 }
 
-fn show_changes<S: Store>(rt: &HostRuntime, store: &mut S, sheet: &mut [u8]) -> io::Result<()>
+fn show_changes<S: Store>(rt: &impl Print, store: &mut S) -> io::Result<()>
     ensures { Asks S.Store store.old store.new }
 {
-    for (added, kind, a, b) in CHANGES {
-        show_change(rt, store, added, Fact::new(kind, a, b, 0), sheet)?;
+    for change in changes() {
+        show_change(rt, store, change)?;
     }
     Ok(())
 }
 
 // Loads the network into a store, and tells of some users and of some changes.
-pub(crate) fn show_network<S: Store>(rt: &HostRuntime, store: &mut S) -> io::Result<()>
-    ensures kept { S.sound store.old → S.sound store.new }
-    ensures outside { S.outside store.old store.new }
+pub(crate) fn show_network<S: Store>(rt: &impl Print, store: &mut S) -> io::Result<()>
+    ensures { S.outside store.old store.new }
 {
-    let mut sheet = [0u8; 64];
     load(store);
-    show_users(rt, store, &mut sheet)?;
-    show_changes(rt, store, &mut sheet)
+    show_users(rt, store)?;
+    show_changes(rt, store)
 }

@@ -1,8 +1,7 @@
 use Rattle.std.specs.Prelude.{◌≡◌, ℕ, ◌+◌, ◌*◌, ◌%◌, ◌<◌, Bool, true, cond, List, is_some, Some, None, Option, slice_index_or, slice_set}
 use Rattle.facts.specs.declared.fact.Fact.{Fact}
-use Rattle.facts.specs.Facts.{Not, Facts, same_fact}
+use Rattle.facts.specs.Facts.{Facts, same_fact}
 use Rattle.cache.specs.declared.Answer.{Answer}
-use Rattle.cache.specs.declared.Cache.{Cache}
 
 -- the slots of a cache, each with an answer or none
 abbrev pub Slots : Type 0
@@ -31,7 +30,7 @@ noted xs f b = slice_set xs (slot_of f) (Some (record { fact = f; there = b }))
 
 -- what is remembered in the other slots than that of f is as it was
 abbrev pub OthersStay : Fact → Slots → Slots → Type 0
-OthersStay f xs ys = (g : Fact) → Not (slot_of g ≡ slot_of f) → recalled ys g ≡ recalled xs g
+OthersStay f xs ys = (g : Fact) → ¬ (slot_of g ≡ slot_of f) → recalled ys g ≡ recalled xs g
 
 -- each remembered answer is the set's own
 abbrev pub Honest : Facts → Slots → Type 0
@@ -42,8 +41,3 @@ pub record AtMost (n : ℕ) (P : Fact → Type 0) : Type 0 where
   pub number : Fact → ℕ
   pub below : (f : Fact) → P f → number f < n
   pub apart : (f g : Fact) → P f → P g → number f ≡ number g → f ≡ g
-
--- a cache is faithful to the store below it
-pub record Faithful {S : Type 0} (sound : S → Type 0) (facts : S → Facts) (c : Cache S) : Type 0 where
-  pub lower : sound c.below
-  pub honest : Honest (facts c.below) c.slots

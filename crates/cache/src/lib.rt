@@ -5,7 +5,7 @@
 ghost use Rattle.std.specs.Prelude.{◌≡◌, ◌<◌, Bool, true, false, length, Some, None, Ok};
 ghost use Rattle.facts.specs.declared.fact.Fact.{Fact};
 ghost use Rattle.facts.specs.Stores.{Put, Take};
-ghost use Rattle.cache.specs.Memory.{slot_of, noted, recalled, Remembered, OthersStay, Honest, AtMost, Faithful};
+ghost use Rattle.cache.specs.Memory.{slot_of, noted, recalled, Remembered, OthersStay, Honest, AtMost};
 
 use facts::fact::Fact;
 use facts::refusal::Refusal;
@@ -20,11 +20,13 @@ struct Answer {
 }
 
 #[derive(Drop)]
-pub struct Cache<S> {
+pub struct Cache<S: Store> {
     below: S,
     slots: [Option<Answer>; SLOTS],
+    pub ghost honest: { Honest (S.facts below) slots },
 }
 
+#[tactic(auto, unfolding(crate::specs::Memory::slot_of))]
 fn slot_of(fact: Fact) -> usize
     ensures value { result ≡ slot_of fact }
     ensures below { result < 64 }
@@ -33,12 +35,20 @@ fn slot_of(fact: Fact) -> usize
     sum % SLOTS
 }
 
+#[tactic(auto, unfolding(crate::specs::Memory::recalled), using(std::proofs::lemmas::Grind::common_steps, facts::proofs::Sets::same_refl))]
+fn note(slots: &mut [Option<Answer>; SLOTS], fact: Fact, there: bool)
+    ensures slots { slots.new ≡ noted slots.old fact there }
+    ensures all { length slots.old ≡ 64 }
+    ensures remembered { recalled slots.new fact ≡ Some there }
+    ensures others { OthersStay fact slots.old slots.new }
+{
+    slots[slot_of(fact)] = Some(Answer { fact, there });
+}
+
 impl<S: Store> Cache<S> {
     pub fn new(below: S) -> Cache<S>
         ensures below { result.below ≡ below }
         ensures nothing { (f : Fact) → recalled result.slots f ≡ None }
-        ensures honest { Honest (S.facts below) result.slots }
-        ensures sound { S.sound below → Faithful S.sound S.facts result }
     {
         Cache {
             below,
@@ -49,24 +59,12 @@ impl<S: Store> Cache<S> {
     // The answer that is remembered of a fact.
     pub fn remembers(&self, fact: Fact) -> Option<bool>
         ensures value { result ≡ recalled self.now.slots fact }
-        ensures honest { Faithful S.sound S.facts self.now
-            → (there : Bool) → result ≡ Some there → there ≡ S.facts self.now.below fact }
+        ensures honest { (there : Bool) → result ≡ Some there → there ≡ S.facts self.now.below fact }
         ensures few { AtMost 64 (Remembered self.now.slots) }
     {
-        let answer = self.slots[slot_of(fact)]?;
-        if answer.fact == fact {
-            Some(answer.there)
-        } else {
-            None
-        }
-    }
-
-    fn note(&mut self, fact: Fact, there: bool)
-        ensures below { self.new.below ≡ self.old.below }
-        ensures slots { self.new.slots ≡ noted self.old.slots fact there }
-        ensures all { length self.old.slots ≡ 64 }
-    {
-        self.slots[slot_of(fact)] = Some(Answer { fact, there });
+        self.slots[slot_of(fact)]
+            .filter(|answer| answer.fact == fact)
+            .map(|answer| answer.there)
     }
 }
 
@@ -79,11 +77,9 @@ impl<S: Store> Store for Cache<S> {
 
     ghost spare = { λ c. S.spare c.below };
 
-    ghost sound = { λ c. Faithful S.sound S.facts c };
-
     ghost outside = { λ c d. S.outside c.below d.below };
 
-    ghost only = { λ c h. S.only c.below h.lower };
+    ghost only = { λ c. S.only c.below };
 
     ghost bounded = { λ c. S.bounded c.below };
 
@@ -96,9 +92,7 @@ impl<S: Store> Store for Cache<S> {
     }
 
     fn has(&mut self, fact: Fact) -> bool
-        ensures value { Faithful S.sound S.facts self.old
-            → result ≡ S.facts self.old.below fact }
-        ensures kept { Faithful S.sound S.facts self.old → Faithful S.sound S.facts self.new }
+        ensures value { result ≡ S.facts self.old.below fact }
         ensures facts { S.facts self.new.below ≡ S.facts self.old.below }
         ensures spare { S.spare self.new.below ≡ S.spare self.old.below }
         ensures outside { S.outside self.old.below self.new.below }
@@ -108,36 +102,35 @@ impl<S: Store> Store for Cache<S> {
         if let Some(there) = self.remembers(fact) {
             return there;
         }
-        let there = self.below.has(fact);
-        self.note(fact, there);
+        let Cache { below, slots } = self;
+        let there = below.has(fact);
+        note(slots, fact, there);
         there
     }
 
     fn put(&mut self, fact: Fact) -> Result<(), Refusal>
-        ensures kept { Faithful S.sound S.facts self.old → Faithful S.sound S.facts self.new }
-        ensures does { Faithful S.sound S.facts self.old
-            → Put fact (S.facts self.old.below) (S.spare self.old.below) result
+        ensures does { Put fact (S.facts self.old.below) (S.spare self.old.below) result
             (S.facts self.new.below) (S.spare self.new.below) }
         ensures outside { S.outside self.old.below self.new.below }
         ensures remembered { result ≡ Ok tt → recalled self.new.slots fact ≡ Some true }
         ensures others { OthersStay fact self.old.slots self.new.slots }
     {
-        self.below.put(fact)?;
-        self.note(fact, true);
+        let Cache { below, slots } = self;
+        below.put(fact)?;
+        note(slots, fact, true);
         Ok(())
     }
 
     fn take(&mut self, fact: Fact)
-        ensures kept { Faithful S.sound S.facts self.old → Faithful S.sound S.facts self.new }
-        ensures does { Faithful S.sound S.facts self.old
-            → Take fact (S.facts self.old.below) (S.spare self.old.below)
+        ensures does { Take fact (S.facts self.old.below) (S.spare self.old.below)
             (S.facts self.new.below) (S.spare self.new.below) }
         ensures outside { S.outside self.old.below self.new.below }
         ensures remembered { recalled self.new.slots fact ≡ Some false }
         ensures others { OthersStay fact self.old.slots self.new.slots }
     {
-        self.below.take(fact);
-        self.note(fact, false);
+        let Cache { below, slots } = self;
+        below.take(fact);
+        note(slots, fact, false);
     }
 
     fn spare(&self) -> usize {

@@ -53,11 +53,9 @@ impl<S: Store> Store for Counting<S> {
 
     ghost spare = { λ c. S.spare c.below };
 
-    ghost sound = { λ c. S.sound c.below };
-
     ghost outside = { λ c d. S.outside c.below d.below };
 
-    ghost only = { λ c h. S.only c.below h };
+    ghost only = { λ c. S.only c.below };
 
     ghost bounded = { λ c. S.bounded c.below };
 
@@ -70,8 +68,7 @@ impl<S: Store> Store for Counting<S> {
     }
 
     fn has(&mut self, fact: Fact) -> bool
-        ensures value { S.sound self.old.below → result ≡ S.facts self.old.below fact }
-        ensures kept { S.sound self.old.below → S.sound self.new.below }
+        ensures value { result ≡ S.facts self.old.below fact }
         ensures facts { S.facts self.new.below ≡ S.facts self.old.below }
         ensures spare { S.spare self.new.below ≡ S.spare self.old.below }
         ensures outside { S.outside self.old.below self.new.below }
@@ -83,9 +80,7 @@ impl<S: Store> Store for Counting<S> {
     }
 
     fn put(&mut self, fact: Fact) -> Result<(), Refusal>
-        ensures kept { S.sound self.old.below → S.sound self.new.below }
-        ensures does { S.sound self.old.below
-            → Put fact (S.facts self.old.below) (S.spare self.old.below) result
+        ensures does { Put fact (S.facts self.old.below) (S.spare self.old.below) result
             (S.facts self.new.below) (S.spare self.new.below) }
         ensures outside { S.outside self.old.below self.new.below }
         ensures asked { self.new.asked ≡ self.old.asked }
@@ -96,9 +91,7 @@ impl<S: Store> Store for Counting<S> {
     }
 
     fn take(&mut self, fact: Fact)
-        ensures kept { S.sound self.old.below → S.sound self.new.below }
-        ensures does { S.sound self.old.below
-            → Take fact (S.facts self.old.below) (S.spare self.old.below)
+        ensures does { Take fact (S.facts self.old.below) (S.spare self.old.below)
             (S.facts self.new.below) (S.spare self.new.below) }
         ensures outside { S.outside self.old.below self.new.below }
         ensures asked { self.new.asked ≡ self.old.asked }

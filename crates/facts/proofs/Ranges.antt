@@ -1,8 +1,16 @@
-use Rattle.std.proofs.Common.{◌≡◌, ◌<◌, true, false, cond, ltb, is_some, Some, None, Option, sym, refl, ap, ◌∙◌, inl, inr}
+use Rattle.std.proofs.Common.{◌≡◌, ◌<◌, Bool, true, false, cond, ltb, is_some, Some, None, Option, Ok, Err, Result, ℕ, sym, refl, ap, ◌∙◌, inl, inr}
 use Rattle.std.proofs.lemmas.Bool.{both_ways, and_parts, ltb-true, cases_Bool, cond-true, cond-false}
+use Rattle.std.specs.Bool.{then_some}
+use Rattle.std.specs.Result.{result_ok}
 use Rattle.facts.specs.declared.fact.Kind.{Kind}
+use Rattle.facts.specs.declared.fact.UnknownKind.{UnknownKind}
 use Rattle.facts.specs.declared.fact.Fact.{Fact}
-use Rattle.facts.specs.Facts.{kind_of, size, entries, in_ranges, in_ranges_of, is_fact}
+use Rattle.facts.specs.Facts.{kind_of, size, entries, in_ranges, in_ranges_of, is_fact, IsKindOf}
+
+-- the kind that a number was found to name
+pub kind_found : (n : ℕ) (r : Result Kind UnknownKind) → IsKindOf n r → kind_of n ≡ result_ok r
+kind_found n (Ok k) h = h
+kind_found n (Err e) h = h.0
 
 -- of a kind's number: the four numbers are a fact where the entries are in the kind's ranges
 pub fact_of_kind : (f : Fact) (k : Kind) → kind_of f.kind ≡ Some k → is_fact f ≡ in_ranges k f
@@ -24,6 +32,12 @@ fact_told f = elim (cases_Bool (is_fact f)) [
   | inl y ↦ ap is_some (cond-true (is_fact f) (kind_of f.kind) None y) ∙ kind_known f (kind_of f.kind) refl y ∙ sym y
   | inr n ↦ ap is_some (cond-false (is_fact f) (kind_of f.kind) None n) ∙ sym n
 ]
+
+-- the kind where the entries are in its ranges
+pub kind_told : (f : Fact) (k : Kind) (b : Bool) → kind_of f.kind ≡ Some k → b ≡ in_ranges k f
+    → then_some b k ≡ cond (is_fact f) (kind_of f.kind) None
+kind_told f k true e h = sym (cond-true (is_fact f) (kind_of f.kind) None (fact_of_kind f k e ∙ sym h) ∙ e)
+kind_told f k false e h = sym (cond-false (is_fact f) (kind_of f.kind) None (fact_of_kind f k e ∙ sym h))
 
 -- what the kind that was told says
 pub none_told : (f : Fact) → None ≡ cond (is_fact f) (kind_of f.kind) None → is_fact f ≡ false

@@ -4,7 +4,7 @@ use Rattle.std.proofs.lemmas.Bool.{eqb-true, eq-eqb, both_ways, and_parts, cases
 use Rattle.facts.specs.declared.fact.Fact.{Fact}
 use Rattle.facts.specs.declared.refusal.Refusal.{Refusal}
 use Rattle.facts.specs.declared.refusal.Refusal.TheVariants.{NoFact, Full}
-use Rattle.facts.specs.Facts.{Not, Facts, In, with, fact, same_fact, is_fact}
+use Rattle.facts.specs.Facts.{Facts, In, with, fact, same_fact, is_fact}
 use Rattle.facts.specs.Stores.{IsFact, Only, Stays, Put, Take}
 
 -- facts with the same numbers are one
@@ -32,10 +32,10 @@ pub with_other : (m : Facts) (f g : Fact) (v : Bool) → same_fact f g ≡ false
 with_other m f g v d = cond-false (same_fact f g) v (m g) d
 
 -- a fact is in a set or is not
-pub cases_in : (m : Facts) (f : Fact) → In m f ⊎ Not (In m f)
+pub cases_in : (m : Facts) (f : Fact) → In m f ⊎ ¬ (In m f)
 cases_in m f = elim (cases_Bool (m f)) [ inl y ↦ inl y | inr n ↦ inr (both_ways (m f) n) ]
 
-pub not_in : (b : Bool) → Not (b ≡ true) → b ≡ false
+pub not_in : (b : Bool) → ¬ (b ≡ true) → b ≡ false
 not_in true h = absurd (h refl)
 not_in false h = refl
 
@@ -119,10 +119,10 @@ module _ (f : Fact) (m : Facts) (n : ℕ) (r : Result (Unit {0}) Refusal) (m' : 
   stays_in : In m f → In m' f
   stays_in h = ap (λ (x : Facts). x f) (p.there h).1.0 ∙ h
 
-  joined_in : IsFact f → Not (In m f) → 0 < n → In m' f
+  joined_in : IsFact f → ¬ (In m f) → 0 < n → In m' f
   joined_in b h z = ap (λ (x : Facts). x f) (p.joins b h z).1 ∙ with_here m f true
 
-  stays_out : Stays m n m' n' → Not (In m f) → Not (In m' f)
+  stays_out : Stays m n m' n' → ¬ (In m f) → ¬ (In m' f)
   stays_out s h e = h (sym (ap (λ (x : Facts). x f) s.0) ∙ e)
 
   -- a second put answers as the first, and the two do what one does
@@ -143,7 +143,7 @@ module _ (f : Fact) (m : Facts) (n : ℕ) (r : Result (Unit {0}) Refusal) (m' : 
   -- a put and a take do what the take alone does
   pub put_taken : (m'' : Facts) (n'' : ℕ) → Take f m' n' m'' n'' → Take f m n m'' n''
   put_taken m'' n'' q =
-      let same : Stays m n m' n' → Not (In m f) → Stays m n m'' n'' =
+      let same : Stays m n m' n' → ¬ (In m f) → Stays m n m'' n'' =
       λ s h. stays_on _ _ _ _ _ _ s (q.absent (stays_out s h)) in
       record {
         absent = λ h. elim (cases_Bool (is_fact f)) [
@@ -173,7 +173,7 @@ take_left f m n m' n' p =
     ]
 
 -- two puts after which a store is as it was
-pub put_no_fact : (f : Fact) (m : Facts) (n : ℕ) → Only m → Not (IsFact f) → Put f m n (Err NoFact) m n
+pub put_no_fact : (f : Fact) (m : Facts) (n : ℕ) → Only m → ¬ (IsFact f) → Put f m n (Err NoFact) m n
 put_no_fact f m n o e = record {
   no_fact = λ _. (refl, (refl, refl));
   there = λ h. absurd (e (o f h));

@@ -1,14 +1,12 @@
-use Rattle.std.specs.Prelude.{◌≡◌, ℕ, Bool, true, false, cond, ◌&&◌, Some, None, Option, ◌==◌, nat_lt}
+use Rattle.std.specs.Prelude.{◌≡◌, ℕ, Bool, true, false, cond, ◌&&◌, Some, None, Option, Result, MatchResult, ◌==◌, nat_lt}
 use Rattle.facts.specs.declared.fact.Entry.{Entry}
 use Rattle.facts.specs.declared.fact.Entry.TheVariants.{User, Role, Permission, Task, Case, Unused}
 use Rattle.facts.specs.declared.fact.Kind.{Kind}
 use Rattle.facts.specs.declared.fact.Kind.TheVariants.{UserRole, PermissionRole, TaskRole, Senior}
 use Rattle.facts.specs.declared.fact.Kind.TheVariants.{UserConflict, RoleConflict, PermissionConflict}
 use Rattle.facts.specs.declared.fact.Kind.TheVariants.{TaskConflict, AtOdds, OpenCase, Taken, Finished}
+use Rattle.facts.specs.declared.fact.UnknownKind.{UnknownKind}
 use Rattle.facts.specs.declared.fact.Fact.{Fact}
-
-abbrev pub Not : Type 0 → Type 0
-Not P = P → ⊥
 
 -- how many values an entry has, from 0; an unused one has only 0
 abbrev pub size : Entry → ℕ
@@ -49,6 +47,10 @@ kind_of n =
     (cond (n == 10) (Some OpenCase)
     (cond (n == 11) (Some Taken)
     (cond (n == 12) (Some Finished) None)))))))))))
+
+-- the result is the kind with the number, or an error with the number that no kind has
+abbrev pub IsKindOf : ℕ → Result Kind UnknownKind → Type 0
+IsKindOf n r = MatchResult r (λ k. kind_of n ≡ Some k) (λ e. (kind_of n ≡ None) × (e.0 ≡ n))
 
 -- what stands in the three entries of each kind
 abbrev pub entries : Kind → Entry × Entry × Entry

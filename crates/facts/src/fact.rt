@@ -1,7 +1,10 @@
 // A fact is a kind and three entries, each in the range of its kind.
 // Four numbers that are no fact can be written down too: they are what a store refuses.
 ghost use Rattle.std.specs.Prelude.{◌≡◌, is_some, if◌then◌else◌, None};
-ghost use Rattle.facts.specs.Facts.{size, number, kind_of, entries, fact, in_ranges, is_fact};
+ghost use Rattle.facts.specs.Facts.{size, number, kind_of, entries, fact, in_ranges, is_fact, IsKindOf};
+
+use std::error::Error;
+use std::fmt;
 
 // What can stand in an entry.
 #[derive(Clone, Copy)]
@@ -55,33 +58,51 @@ impl Entry {
     }
 }
 
-impl Kind {
-    pub fn number(self) -> u8
-        ensures { result ≡ number self }
-    {
-        self as u8
-    }
+// A number that no kind has.
+#[derive(Clone, Copy, PartialEq, Eq, Debug)]
+pub struct UnknownKind(pub u8);
 
-    pub fn of_number(number: u8) -> Option<Kind>
-        ensures { result ≡ kind_of number }
-    {
+impl fmt::Display for UnknownKind {
+    fn fmt<W: fmt::Write>(&self, f: &mut fmt::Formatter<W>) -> fmt::Result {
+        write!(f, "no kind has the number {}", self.0)
+    }
+}
+
+impl Error for UnknownKind {}
+
+impl From<Kind> for u8 {
+    ghost from_gives = { λ kind n. n ≡ number kind };
+
+    fn from(kind: Kind) -> u8 {
+        kind as u8
+    }
+}
+
+impl TryFrom<u8> for Kind {
+    type Error = UnknownKind;
+
+    ghost try_from_gives = { IsKindOf };
+
+    fn try_from(number: u8) -> Result<Kind, UnknownKind> {
         match number {
-            1 => Some(Kind::UserRole),
-            2 => Some(Kind::PermissionRole),
-            3 => Some(Kind::TaskRole),
-            4 => Some(Kind::Senior),
-            5 => Some(Kind::UserConflict),
-            6 => Some(Kind::RoleConflict),
-            7 => Some(Kind::PermissionConflict),
-            8 => Some(Kind::TaskConflict),
-            9 => Some(Kind::AtOdds),
-            10 => Some(Kind::OpenCase),
-            11 => Some(Kind::Taken),
-            12 => Some(Kind::Finished),
-            _ => None,
+            1 => Ok(Kind::UserRole),
+            2 => Ok(Kind::PermissionRole),
+            3 => Ok(Kind::TaskRole),
+            4 => Ok(Kind::Senior),
+            5 => Ok(Kind::UserConflict),
+            6 => Ok(Kind::RoleConflict),
+            7 => Ok(Kind::PermissionConflict),
+            8 => Ok(Kind::TaskConflict),
+            9 => Ok(Kind::AtOdds),
+            10 => Ok(Kind::OpenCase),
+            11 => Ok(Kind::Taken),
+            12 => Ok(Kind::Finished),
+            _ => Err(UnknownKind(number)),
         }
     }
+}
 
+impl Kind {
     pub fn entries(self) -> (Entry, Entry, Entry)
         ensures { result ≡ entries self }
     {
@@ -107,7 +128,7 @@ impl Fact {
         ensures { result ≡ fact (number kind) a b c }
     {
         Fact {
-            kind: kind.number(),
+            kind: kind.into(),
             a,
             b,
             c,
@@ -127,8 +148,8 @@ impl Fact {
         ensures kind { result ≡ (if is_fact self then kind_of self.kind else None) }
         ensures told { is_some result ≡ is_fact self }
     {
-        let kind = Kind::of_number(self.kind)?;
-        if self.fits(kind) { Some(kind) } else { None }
+        let kind = Kind::try_from(self.kind).ok()?;
+        self.fits(kind).then_some(kind)
     }
 
     pub fn is_fact(self) -> bool

@@ -1,7 +1,8 @@
-use Rattle.std.proofs.Common.{◌≡◌, ℕ, ◌+◌, ◌-◌, ◌*◌, ◌/◌, ◌%◌, ◌<◌, ◌≤◌, Bool, true, cond, ◌&&◌, ◌||◌, eqb, leb, ◌⊎◌, Some, None, Option, sym, refl, ap, ◌∙◌, subst, inl, inr, arith}
+use Rattle.std.proofs.Common.{◌≡◌, ℕ, ◌+◌, ◌-◌, ◌*◌, ◌/◌, ◌%◌, ◌<◌, ◌≤◌, Bool, true, ◌&&◌, ◌||◌, eqb, leb, Some, Option, sym, refl, ap, ◌∙◌, subst, inl, inr, arith}
 use lib.Arith.{digits_lt, digits_div, digits_mod}
 use Rattle.std.proofs.lemmas.Nat.{div-add-mod', div_below, mod_below}
-use Rattle.std.proofs.lemmas.Bool.{and_parts, and_from, or_cases, eqb-true, leb-true, lt-ltb, cases_Bool, cases_lt, cond-true, cond-false}
+use Rattle.std.proofs.lemmas.Bool.{leb-true, cases_eq, cases_lt}
+use Rattle.std.proofs.lemmas.Bool.Decides.{nat_tests}
 use Rattle.facts.specs.declared.fact.Entry.{Entry}
 use Rattle.facts.specs.declared.fact.Entry.TheVariants.{User, Role, Permission, Task, Case, Unused}
 use Rattle.facts.specs.declared.fact.Kind.{Kind}
@@ -21,33 +22,19 @@ every_kind p =
     p UserRole && (p PermissionRole && (p TaskRole && (p Senior && (p UserConflict && (p RoleConflict
     && (p PermissionConflict && (p TaskConflict && (p AtOdds && (p OpenCase && (p Taken && p Finished))))))))))
 
-pub at_kind : (p : Kind → Bool) → every_kind p ≡ true → (k : Kind) → p k ≡ true
-at_kind p e k =
-    let e1 = and_parts (p UserRole) _ e in
-    let e2 = and_parts (p PermissionRole) _ e1.1 in
-    let e3 = and_parts (p TaskRole) _ e2.1 in
-    let e4 = and_parts (p Senior) _ e3.1 in
-    let e5 = and_parts (p UserConflict) _ e4.1 in
-    let e6 = and_parts (p RoleConflict) _ e5.1 in
-    let e7 = and_parts (p PermissionConflict) _ e6.1 in
-    let e8 = and_parts (p TaskConflict) _ e7.1 in
-    let e9 = and_parts (p AtOdds) _ e8.1 in
-    let e10 = and_parts (p OpenCase) _ e9.1 in
-    let e11 = and_parts (p Taken) _ e10.1 in
-    elim k as (λ j. p j ≡ true) [
-      | UserRole ↦ e1.0
-      | PermissionRole ↦ e2.0
-      | TaskRole ↦ e3.0
-      | Senior ↦ e4.0
-      | UserConflict ↦ e5.0
-      | RoleConflict ↦ e6.0
-      | PermissionConflict ↦ e7.0
-      | TaskConflict ↦ e8.0
-      | AtOdds ↦ e9.0
-      | OpenCase ↦ e10.0
-      | Taken ↦ e11.0
-      | Finished ↦ e11.1
-    ]
+at_kind : (p : Kind → Bool) → every_kind p ≡ true → (k : Kind) → p k ≡ true
+at_kind p e UserRole = grind (arith, nat_tests)
+at_kind p e PermissionRole = grind (arith, nat_tests)
+at_kind p e TaskRole = grind (arith, nat_tests)
+at_kind p e Senior = grind (arith, nat_tests)
+at_kind p e UserConflict = grind (arith, nat_tests)
+at_kind p e RoleConflict = grind (arith, nat_tests)
+at_kind p e PermissionConflict = grind (arith, nat_tests)
+at_kind p e TaskConflict = grind (arith, nat_tests)
+at_kind p e AtOdds = grind (arith, nat_tests)
+at_kind p e OpenCase = grind (arith, nat_tests)
+at_kind p e Taken = grind (arith, nat_tests)
+at_kind p e Finished = grind (arith, nat_tests)
 
 -- how many facts a kind has, and where its numbers end
 abbrev total : Kind → ℕ
@@ -63,15 +50,8 @@ apart_test j k = eqb (number j) (number k) || (leb (end j) (base k) || leb (end 
 apart_table : every_kind (λ j. every_kind (apart_test j)) ≡ true
 apart_table = refl
 
-kinds_apart : (j k : Kind) → (number j ≡ number k) ⊎ ((end j ≤ base k) ⊎ (end k ≤ base j))
-kinds_apart j k =
-    elim (or_cases (eqb (number j) (number k)) _ (at_kind (apart_test j) (at_kind (λ i. every_kind (apart_test i)) apart_table j) k)) [
-      | inl e ↦ inl (eqb-true (number j) (number k) e)
-      | inr o ↦ elim (or_cases (leb (end j) (base k)) (leb (end k) (base j)) o) [
-        | inl h ↦ inr (inl (leb-true (end j) (base k) h))
-        | inr h ↦ inr (inr (leb-true (end k) (base j) h))
-      ]
-    ]
+kinds_apart : (j k : Kind) → apart_test j k ≡ true
+kinds_apart j k = at_kind (apart_test j) (at_kind (λ i. every_kind (apart_test i)) apart_table j) k
 
 end_table : every_kind (λ k. leb (end k) 177184) ≡ true
 end_table = refl
@@ -107,64 +87,8 @@ same_kind j k e =
     let p : Some j ≡ Some k = sym (kind_of_number j) ∙ ap kind_of e ∙ kind_of_number k in
     cc
 
-one_more : (n i : ℕ) (j k : Kind) (o : Option Kind) → cond (eqb n i) (Some j) o ≡ Some k → ((n ≡ i) × (j ≡ k)) ⊎ (o ≡ Some k)
-one_more n i j k o e = elim (cases_Bool (eqb n i)) [
-  | inl y ↦ inl (eqb-true n i y, (let p : Some j ≡ Some k = sym (cond-true (eqb n i) (Some j) o y) ∙ e in cc))
-  | inr d ↦ inr (sym (cond-false (eqb n i) (Some j) o d) ∙ e)
-]
-
 number_of_kind : (n : ℕ) (k : Kind) → kind_of n ≡ Some k → n ≡ number k
-number_of_kind n k e =
-    let found : (j : Kind) → (n ≡ number j) × (j ≡ k) → n ≡ number k = λ j p. p.0 ∙ ap number p.1 in
-    elim (one_more n 1 UserRole k _ e) [
-      | inl p ↦ found UserRole p
-      | inr e1 ↦
-          elim (one_more n 2 PermissionRole k _ e1) [
-            | inl p ↦ found PermissionRole p
-            | inr e2 ↦
-                elim (one_more n 3 TaskRole k _ e2) [
-                  | inl p ↦ found TaskRole p
-                  | inr e3 ↦
-                      elim (one_more n 4 Senior k _ e3) [
-                        | inl p ↦ found Senior p
-                        | inr e4 ↦
-                            elim (one_more n 5 UserConflict k _ e4) [
-                              | inl p ↦ found UserConflict p
-                              | inr e5 ↦
-                                  elim (one_more n 6 RoleConflict k _ e5) [
-                                    | inl p ↦ found RoleConflict p
-                                    | inr e6 ↦
-                                        elim (one_more n 7 PermissionConflict k _ e6) [
-                                          | inl p ↦ found PermissionConflict p
-                                          | inr e7 ↦
-                                              elim (one_more n 8 TaskConflict k _ e7) [
-                                                | inl p ↦ found TaskConflict p
-                                                | inr e8 ↦
-                                                    elim (one_more n 9 AtOdds k _ e8) [
-                                                      | inl p ↦ found AtOdds p
-                                                      | inr e9 ↦
-                                                          elim (one_more n 10 OpenCase k _ e9) [
-                                                            | inl p ↦ found OpenCase p
-                                                            | inr e10 ↦
-                                                                elim (one_more n 11 Taken k _ e10) [
-                                                                  | inl p ↦ found Taken p
-                                                                  | inr e11 ↦
-                                                                      elim (one_more n 12 Finished k _ e11) [
-                                                                        | inl p ↦ found Finished p
-                                                                        | inr e12 ↦
-                                                                            let p : ◌≡◌ {A = Option Kind} None (Some k) = e12 in let z : ◌≡◌ {A = ℕ} 0 1 = cc in absurd (omega arith)
-                                                                      ]
-                                                                ]
-                                                          ]
-                                                    ]
-                                              ]
-                                        ]
-                                  ]
-                            ]
-                      ]
-                ]
-          ]
-    ]
+number_of_kind n k e = grind (arith, nat_tests)
 
 -- the entries as digits
 module _ (f : Fact) (k : Kind) where
@@ -217,62 +141,26 @@ pub number_apart : (f g : Fact) → IsFact f → IsFact g → bit_number f ≡ b
 number_apart f g p q e =
     let r = ranged f p in
     let s = ranged g q in
-    elim (kinds_apart r.kind s.kind) [
+    let apart = kinds_apart r.kind s.kind in
+    let here = within f r in
+    let there = within g s in
+    elim (cases_eq (number r.kind) (number s.kind)) [
       | inl k ↦ same_digits f g r s (same_kind r.kind s.kind k) e
-      | inr o ↦ elim o [
-        | inl h ↦ absurd (omega (arith, (within f r).1, (within g s).0, h))
-        | inr h ↦ absurd (omega (arith, (within g s).1, (within f r).0, h))
-      ]
+      | inr d ↦ absurd (grind (arith, nat_tests))
     ]
 
--- the kind among whose numbers i lies
-kind_at : (i : ℕ) → i < 177184 → (k : Kind) × (base k ≤ i) × (i < end k)
+-- the kind among whose numbers i lies, tried in their order
+abbrev Lies : ℕ → Type 0
+Lies i = (k : Kind) × (base k ≤ i) × (i < end k)
+
+lies : (i : ℕ) (k : Kind) → base k ≤ i → (end k ≤ i → Lies i) → Lies i
+lies i k l past = elim (cases_lt i (end k)) [ inl h ↦ (k, l, h) | inr g ↦ past g ]
+
+kind_at : (i : ℕ) → i < 177184 → Lies i
 kind_at i h =
-    elim (cases_lt i 8192) [
-      | inl h1 ↦ (UserRole, omega arith, h1)
-      | inr g1 ↦
-          elim (cases_lt i 12288) [
-            | inl h2 ↦ (PermissionRole, omega arith, h2)
-            | inr g2 ↦
-                elim (cases_lt i 14336) [
-                  | inl h3 ↦ (TaskRole, omega arith, h3)
-                  | inr g3 ↦
-                      elim (cases_lt i 18432) [
-                        | inl h4 ↦ (Senior, omega arith, h4)
-                        | inr g4 ↦
-                            elim (cases_lt i 34816) [
-                              | inl h5 ↦ (UserConflict, omega arith, h5)
-                              | inr g5 ↦
-                                  elim (cases_lt i 38912) [
-                                    | inl h6 ↦ (RoleConflict, omega arith, h6)
-                                    | inr g6 ↦
-                                        elim (cases_lt i 43008) [
-                                          | inl h7 ↦ (PermissionConflict, omega arith, h7)
-                                          | inr g7 ↦
-                                              elim (cases_lt i 44032) [
-                                                | inl h8 ↦ (TaskConflict, omega arith, h8)
-                                                | inr g8 ↦
-                                                    elim (cases_lt i 45056) [
-                                                      | inl h9 ↦ (AtOdds, omega arith, h9)
-                                                      | inr g9 ↦
-                                                          elim (cases_lt i 45088) [
-                                                            | inl h10 ↦ (OpenCase, omega arith, h10)
-                                                            | inr g10 ↦
-                                                                elim (cases_lt i 176160) [
-                                                                  | inl h11 ↦ (Taken, omega arith, h11)
-                                                                  | inr g11 ↦
-                                                                      (Finished, omega arith, h)
-                                                                ]
-                                                          ]
-                                                    ]
-                                              ]
-                                        ]
-                                  ]
-                            ]
-                      ]
-                ]
-          ]
-    ]
+    lies i UserRole (omega arith) (λ a. lies i PermissionRole a (λ b. lies i TaskRole b (λ c. lies i Senior c (λ d.
+    lies i UserConflict d (λ e. lies i RoleConflict e (λ f. lies i PermissionConflict f (λ g. lies i TaskConflict g (λ j.
+    lies i AtOdds j (λ k. lies i OpenCase k (λ l. lies i Taken l (λ m. lies i Finished m (λ n. absurd (omega arith)))))))))))))
 
 -- the fact with the number i of a kind
 fact_in : Kind → ℕ → Fact
@@ -293,8 +181,7 @@ number_onto i h =
     let third : v % C < C = mod_below v C (size_pos (entries k).2) in
     let second : v / C % B < B = mod_below (v / C) B (size_pos (entries k).1) in
     let first : v / C / B < A = div_below (v / C) B A (size_pos (entries k).1) (div_below v C (A * B) (size_pos (entries k).2) small) in
-    let ranges : in_ranges k f ≡ true =
-    and_from _ _ (lt-ltb (v / C / B) A first) (and_from _ _ (lt-ltb (v / C % B) B second) (lt-ltb (v % C) C third)) in
+    let ranges : in_ranges k f ≡ true = grind (arith, nat_tests) in
     let value : digits f k ≡ v = ap (λ (x : ℕ). x * C + v % C) (div-add-mod' (v / C) B) ∙ div-add-mod' v C in (
       f,
       fact_of_kind f k (kind_of_number k) ∙ ranges,

@@ -2,7 +2,7 @@
 // Over fewer bytes it has no facts and no spare, and writes nothing.
 #![tactic(auto)]
 
-ghost use Rattle.std.specs.Prelude.{◌≡◌, ℕ, ◌/◌, ◌<◌, ◌≤◌, false, not, length, if◌then◌else◌, nat_eq, slice_index};
+ghost use Rattle.std.specs.Prelude.{◌≡◌, ℕ, ◌/◌, ◌<◌, not, length, if◌then◌else◌, nat_eq};
 ghost use Rattle.facts.specs.Stores.{Empty};
 ghost use Rattle.grid.specs.Bits.{bit_in, bit, enough, grid_facts, grid_spare, Counted, Flipped, GridKeeps};
 ghost use Rattle.facts.specs.Lent.{SameBeyond};
@@ -23,6 +23,7 @@ const FACTS: usize = 177_184;
 pub struct Grid<'a> {
     bytes: &'a mut [u8],
     count: usize,
+    pub ghost counted: { Counted bytes.now count },
 }
 
 fn is_set(byte: u8, place: usize) -> bool
@@ -34,33 +35,31 @@ fn is_set(byte: u8, place: usize) -> bool
 
 fn flipped(byte: u8, place: usize) -> u8
     requires { place < 8 }
-    ensures { (k : ℕ) → k < 8
+    ensures { (k : ℕ)
         → bit_in result k ≡ (if nat_eq k place then not (bit_in byte place) else bit_in byte k) }
 {
     byte ^ (1 << place)
 }
 
-fn clear(bytes: &mut [u8])
-    requires { 22148 ≤ length bytes.old }
-    ensures zero { (k : ℕ) → k < 22148 → slice_index bytes.new k ≡ 0 }
-    ensures rest { SameBeyond 22148 bytes.entry bytes.exit }
+// Turns the bit of a number round.
+fn flip(bytes: &mut [u8], number: usize)
+    requires { (number / 8 < length bytes.old) × (number < 177184) }
+    ensures bits { Flipped number bytes.old bytes.new }
+    ensures outside { SameBeyond 22148 bytes.entry bytes.exit }
 {
-    for i in 0..BYTES {
-        bytes[i] = 0;
-    }
+    bytes[number / 8] = flipped(bytes[number / 8], number % 8);
 }
 
 impl<'a> Grid<'a> {
     // An empty grid: the bits are cleared.
     pub fn new(bytes: &'a mut [u8]) -> Grid<'a>
-        ensures sound { Counted result.bytes.now result.count }
         ensures empty { Empty (grid_facts result.bytes.now) }
         ensures spare { grid_spare result.bytes.now result.count
             ≡ (if enough bytes.old then 177184 else 0) }
         ensures outside { GridKeeps bytes.entry result.bytes }
     {
-        if bytes.len() >= BYTES {
-            clear(bytes);
+        if let Some(bits) = bytes.first_chunk_mut::<BYTES>() {
+            bits.fill(0);
         }
         Grid { bytes, count: 0 }
     }
@@ -77,16 +76,6 @@ impl<'a> Grid<'a> {
     {
         is_set(self.bytes[number / 8], number % 8)
     }
-
-    fn flip(&mut self, number: usize)
-        requires { (number / 8 < length self.old.bytes.now) × (number < 177184) }
-        ensures bits { Flipped number self.old.bytes.now self.new.bytes.now }
-        ensures count { self.new.count ≡ self.old.count }
-        ensures outside { SameBeyond 22148 self.old.bytes self.new.bytes }
-    {
-        let byte = self.bytes[number / 8];
-        self.bytes[number / 8] = flipped(byte, number % 8);
-    }
 }
 
 impl<'a> Store for Grid<'a> {
@@ -98,11 +87,9 @@ impl<'a> Store for Grid<'a> {
 
     ghost spare = { λ g. grid_spare g.bytes.now g.count };
 
-    ghost sound = { λ g. Counted g.bytes.now g.count };
-
     ghost outside = { λ g h. GridKeeps g.bytes h.bytes };
 
-    ghost only = { λ g _. grid_only g.bytes.now };
+    ghost only = { λ g. grid_only g.bytes.now };
 
     ghost bounded = { λ g. grid_bounded g.bytes.now g.count };
 
@@ -133,26 +120,25 @@ impl<'a> Store for Grid<'a> {
         if self.holds(number) {
             return Ok(());
         }
-        if self.count >= FACTS {
-            return Err(Refusal::Full);
-        }
-        self.flip(number);
-        self.count += 1;
+        let Grid { bytes, count } = self;
+        flip(bytes, number);
+        *count += 1;
         Ok(())
     }
 
     fn take(&mut self, fact: Fact) {
         if let Some(number) = bit_number(fact) {
             if self.is_wide() && self.holds(number) {
-                self.flip(number);
-                self.count = self.count.saturating_sub(1);
+                let Grid { bytes, count } = self;
+                flip(bytes, number);
+                *count -= 1;
             }
         }
     }
 
     fn spare(&self) -> usize {
         if self.is_wide() {
-            FACTS.saturating_sub(self.count)
+            FACTS - self.count
         } else {
             0
         }

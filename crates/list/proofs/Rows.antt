@@ -1,9 +1,10 @@
-use Rattle.std.proofs.Common.{◌≡◌, ℕ, ◌+◌, ◌-◌, ◌<◌, ◌≤◌, min, Bool, true, false, eqb, ltb, ◌≢◌, List, length, get_or, take, set, is_some, Some, None, Ok, Option, sym, refl, ap, ◌∙◌, subst, inl, inr, arith, length-set, length-take, get_or-set_other, get_or-take, get_or-set_same, drop-set-lt, MutBor}
+use Rattle.std.proofs.Common.{◌≡◌, ℕ, ◌+◌, ◌-◌, ◌<◌, ◌≤◌, min, Bool, true, false, eqb, ltb, ◌≢◌, List, length, get_or, take, set, is_some, Some, None, Ok, Option, MatchOption, sym, refl, ap, ◌∙◌, subst, inl, inr, arith, length-set, length-take-le, get_or-set_other, get_or-take, get_or-set_same, drop-set-lt, MutBor}
+use Rattle.std.specs.List.{AllWithin, HoldsAt}
 use mathlib.Core.Path.{fun_ext}
 use denote.Ref.{at_last}
 use Rattle.std.proofs.lemmas.Bool.{cases_eq, cases_Bool, both_ways, ltb-true, ltb-false, eq-eqb, ne_eqb, cond-true}
 use Rattle.facts.specs.declared.fact.Fact.{Fact}
-use Rattle.facts.specs.Facts.{Not, In, with, same_fact}
+use Rattle.facts.specs.Facts.{In, with, same_fact}
 use Rattle.facts.specs.Stores.{IsFact, Empty, Decides, Put, Take}
 use Rattle.facts.proofs.Sets.{same_eq, same_refl, not_in, with_other}
 use Rattle.facts.specs.Lent.{SameBeyond}
@@ -17,23 +18,25 @@ iff false true f g = g refl
 iff false false f g = refl
 
 -- none of the places holds f
-pub among_none : (xs : List Fact) (n : ℕ) (f : Fact) → ((k : ℕ) → k < n → Not (get_or xs k nil ≡ f)) → among xs n f ≡ false
+among_none : (xs : List Fact) (n : ℕ) (f : Fact) → ((k : ℕ) → k < n → ¬ (get_or xs k nil ≡ f)) → among xs n f ≡ false
 among_none xs n f h = not_in (among xs n f) (λ e. let w = among_where xs n f e in h w.0 w.1 w.2)
 
--- the first n of the first u places
-pub first_within : (xs : List Fact) (u n : ℕ) → n ≤ length (take u xs) → n ≤ u
-first_within xs u n h = omega (arith, length-take u xs)
-
-pub place_of : (xs ys : List Fact) (u n k : ℕ) → ys ≡ take (n - 0) (take u xs) → n ≤ length (take u xs) → k < n
-    → get_or ys k nil ≡ get_or xs k nil
-place_of xs ys u n k e w h =
-    let v = first_within xs u n w in
-    ap (λ (x : List Fact). get_or x k nil) e ∙ get_or-take (n - 0) (take u xs) k nil (omega arith) ∙ get_or-take u xs k nil (omega arith)
+-- a search through the first n places
+pub first_found : (xs : List Fact) (n : ℕ) (f : Fact) (o : Option ℕ) → n ≤ length xs
+    → MatchOption o (AllWithin (λ x. ¬ (x ≡ f)) (take n xs) 0 (length (take n xs)))
+    (λ i. (i < length (take n xs)) × HoldsAt (λ x. x ≡ f) (take n xs) i × AllWithin (λ x. ¬ (x ≡ f)) (take n xs) 0 i)
+    → Found xs n f o
+first_found xs n f None h w =
+    among_none xs n f (λ k lt e.
+    w k nil (omega arith) (omega (arith, length-take-le n xs h)) (get_or-take n xs k nil lt ∙ e))
+first_found xs n f (Some i) h w =
+    let lt : i < n = omega (arith, w.0, length-take-le n xs h) in
+    (lt, sym (get_or-take n xs i nil lt) ∙ w.1 nil)
 
 -- a search tells whether the fact is there
-pub found_told : (xs : List Fact) (n : ℕ) (f : Fact) (o : Option ℕ) → Tidy xs n → Found xs n f o → is_some o ≡ among xs n f
-found_told xs n f None t w = sym (w t.within)
-found_told xs n f (Some i) t w = sym (among_at xs n i f w.0 w.2)
+pub found_told : (xs : List Fact) (n : ℕ) (f : Fact) (o : Option ℕ) → Found xs n f o → is_some o ≡ among xs n f
+found_told xs n f None w = sym w
+found_told xs n f (Some i) w = sym (among_at xs n i f w.0 w.1)
 
 -- a list is empty where no place is used
 pub empty_told : (xs : List Fact) (n : ℕ) → Decides (eqb n 0) (Empty (among xs n))
@@ -43,7 +46,7 @@ empty_told xs n = elim (cases_eq n 0) [
 ]
 
 abbrev Apart : List Fact → ℕ → Type 0
-Apart xs n = (j k : ℕ) → j < k → k < n → Not (get_or xs j nil ≡ get_or xs k nil)
+Apart xs n = (j k : ℕ) → j < k → k < n → ¬ (get_or xs j nil ≡ get_or xs k nil)
 
 apart_at : (xs : List Fact) (n j k : ℕ) → Apart xs n → j < n → k < n → get_or xs j nil ≡ get_or xs k nil → j ≡ k
 apart_at xs n j k a hj hk e = elim (cases_eq j k) [
@@ -96,7 +99,7 @@ module _ (xs : List Fact) (n : ℕ) (f : Fact) (h : n < usable xs) where
         among_at (set xs n f) (n + 1) w.0 g (omega (arith, w.1)) (old_place w.0 w.1 ∙ w.2)
   ]
 
-  pub put_does : IsFact f → Not (In (among xs n) f)
+  pub put_does : IsFact f → ¬ (In (among xs n) f)
       → Put f (among xs n) (usable xs - n) (Ok tt) (among (set xs n f) (n + 1)) (usable (set xs n f) - (n + 1))
   put_does p d = record {
     no_fact = λ b. absurd (b p);
@@ -115,7 +118,7 @@ module _ (xs : List Fact) (n : ℕ) (f : Fact) (h : n < usable xs) where
     | inr d ↦ let lt : k < n = omega arith in rw (old_place k lt) (t.facts k lt)
   ]
 
-  put_apart : Not (In (among xs n) f) → Tidy xs n → Apart (set xs n f) (n + 1)
+  put_apart : ¬ (In (among xs n) f) → Tidy xs n → Apart (set xs n f) (n + 1)
   put_apart d t j k hj hk e =
       let ltj : j < n = omega arith in
       let e1 : get_or xs j nil ≡ get_or (set xs n f) k nil = sym (old_place j ltj) ∙ e in
@@ -124,7 +127,7 @@ module _ (xs : List Fact) (n : ℕ) (f : Fact) (h : n < usable xs) where
         | inr q ↦ let ltk : k < n = omega arith in t.apart j k hj ltk (e1 ∙ old_place k ltk)
       ]
 
-  pub put_tidy : IsFact f → Not (In (among xs n) f) → Tidy xs n → Tidy (set xs n f) (n + 1)
+  pub put_tidy : IsFact f → ¬ (In (among xs n) f) → Tidy xs n → Tidy (set xs n f) (n + 1)
   put_tidy p d t = record {
     within = rw (usable_set xs n f) (omega arith);
     facts = put_facts p t;

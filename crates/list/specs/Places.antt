@@ -1,6 +1,6 @@
 use Rattle.std.specs.Prelude.{◌≡◌, ℕ, zero, suc, ◌<◌, ◌≤◌, min, false, ◌||◌, List, length, Some, None, Option, slice_index_or}
 use Rattle.facts.specs.declared.fact.Fact.{Fact}
-use Rattle.facts.specs.Facts.{Not, Facts, fact, same_fact}
+use Rattle.facts.specs.Facts.{Facts, fact, same_fact}
 use Rattle.facts.specs.Stores.{IsFact}
 
 -- four numbers that are no fact, for a place past the end
@@ -22,9 +22,9 @@ pub record Tidy (xs : List Fact) (n : ℕ) : Type 0 where
   -- each of them holds a fact
   pub facts : (k : ℕ) → k < n → IsFact (slice_index_or xs k nil)
   -- and no two the same
-  pub apart : (j k : ℕ) → j < k → k < n → Not (slice_index_or xs j nil ≡ slice_index_or xs k nil)
+  pub apart : (j k : ℕ) → j < k → k < n → ¬ (slice_index_or xs j nil ≡ slice_index_or xs k nil)
 
 -- what a search tells: where f stands in the first n places, if it does
 abbrev pub Found : List Fact → ℕ → Fact → Option ℕ → Type 0
-Found xs n f None = n ≤ usable xs → among xs n f ≡ false
-Found xs n f (Some i) = (i < n) × (n ≤ usable xs) × (slice_index_or xs i nil ≡ f)
+Found xs n f None = among xs n f ≡ false
+Found xs n f (Some i) = (i < n) × (slice_index_or xs i nil ≡ f)

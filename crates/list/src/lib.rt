@@ -16,11 +16,11 @@ use facts::store::Store;
 pub struct List<'a> {
     places: &'a mut [Fact],
     used: usize,
+    pub ghost tidy: { Tidy places.now used },
 }
 
 impl<'a> List<'a> {
     pub fn new(places: &'a mut [Fact]) -> List<'a>
-        ensures sound { Tidy result.places.now result.used }
         ensures empty { Empty (among result.places.now result.used) }
         ensures spare { usable result.places.now - result.used ≡ min (length places.old) 4096 }
         ensures named { result.places.ghost_name ≡ places.entry.ghost_name }
@@ -36,17 +36,13 @@ impl<'a> List<'a> {
         self.places.len().min(Self::MOST)
     }
 
-    // The place of a fact among the used ones; a count past the usable part finds nothing, so no call writes there.
+    // The place of a fact among the used ones.
     fn find(&self, fact: Fact) -> Option<usize>
         ensures { Found self.now.places.now self.now.used fact result }
     {
-        let used = self.places[..self.usable()].get(..self.used)?;
-        for (i, place) in used.iter().enumerate() {
-            if *place == fact {
-                return Some(i);
-            }
-        }
-        None
+        self.places[..self.used]
+            .iter()
+            .position(|place| *place == fact)
     }
 }
 
@@ -59,11 +55,9 @@ impl<'a> Store for List<'a> {
 
     ghost spare = { λ s. usable s.places.now - s.used };
 
-    ghost sound = { λ s. Tidy s.places.now s.used };
-
     ghost outside = { λ s t. SameBeyond 4096 s.places t.places };
 
-    ghost only = { λ s. only_facts s.places.now s.used };
+    ghost only = { λ s. only_facts s.places.now s.used s.tidy };
 
     ghost bounded = { λ s. within_most s.places.now s.used };
 
@@ -100,13 +94,13 @@ impl<'a> Store for List<'a> {
     fn take(&mut self, fact: Fact) {
         if let Some(i) = self.find(fact) {
             let last = self.used - 1;
-            self.places[i] = self.places[last];
             self.used = last;
+            self.places[i] = self.places[last];
         }
     }
 
     fn spare(&self) -> usize {
-        self.usable().saturating_sub(self.used)
+        self.usable() - self.used
     }
 
     fn empty(&self) -> bool {

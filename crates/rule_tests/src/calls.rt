@@ -25,18 +25,11 @@ pub(crate) fn told(answer: Result<bool, Refusal>) -> char {
 }
 
 // How many roles are in a set, or 100 and the number of the refusal.
-pub(crate) fn size(answer: Result<RoleSet, Refusal>) -> u8 {
-    let roles = match answer {
-        Ok(roles) => roles,
-        Err(refusal) => return refusal.number().saturating_add(100),
-    };
-    let mut count = 0u8;
-    for role in 0..64u32 {
-        if roles.contains(role) {
-            count = count.saturating_add(1);
-        }
+pub(crate) fn size(answer: Result<RoleSet, Refusal>) -> usize {
+    match answer {
+        Ok(roles) => (0..64u32).filter(|role| roles.contains(*role)).count(),
+        Err(refusal) => 100 + usize::from(u8::from(refusal)),
     }
-    count
 }
 
 // Puts a fact of two entries; false if it is refused.
@@ -46,23 +39,22 @@ pub(crate) fn add<S: Store>(store: &mut S, kind: Kind, a: u8, b: u8) -> bool {
 
 // The links of a chain from role 0 down to role `last`, and user 9 assigned to role 0.
 pub(crate) fn chain<S: Store>(store: &mut S, last: u8) {
-    let mut above = 0u8;
     for role in 0..last {
-        above = role;
-        add(store, Kind::Senior, above, above.saturating_add(1));
+        add(store, Kind::Senior, role, role.saturating_add(1));
     }
     add(store, Kind::UserRole, 9, 0);
 }
 
-fn number(verdict: Result<Option<Rule>, Refusal>) -> u8 {
+// The number of the rule that is broken, 0 for none, or 100 and the number of the refusal.
+pub(crate) fn number(verdict: Result<Option<Rule>, Refusal>) -> u8 {
     match verdict {
         Ok(None) => 0,
-        Ok(Some(rule)) => rule.number(),
-        Err(refusal) => refusal.number().saturating_add(100),
+        Ok(Some(rule)) => rule.into(),
+        Err(refusal) => u8::from(refusal).saturating_add(100),
     }
 }
 
-// What a full and a quick judgement say of a change: 0, or the number of the rule.
+// What a full and a quick judgement say of a change, as numbers.
 pub(crate) fn verdicts<S: Store>(store: &mut S, change: Change) -> (u8, u8) {
     let mut sheet = [7u8; 64];
     let full = number(judge(store, change, &mut sheet));

@@ -1,13 +1,17 @@
-// Chains, diamonds, ranges and sheets.
-use crate::calls::{NO_FACT, add, chain, size, told};
+// Chains, diamonds, ranges, sheets and the texts of refusals.
+use crate::calls::{NO_FACT, add, chain, number, size, told};
 use facts::fact::Kind;
 use list::List;
+use rules::change::Change;
+use rules::judge::{judge, judge_quickly};
+use rules::refusal::Refusal;
 use rules::roles::{
     carries, has_permission, holds, lies_above, reaches, roles_held, roles_reached,
 };
+use std::test::Fail;
 
 // Of a chain from role 0 down to `last`, with permission 5 assigned to `last` and user 9 to role 0.
-fn along(last: u8) -> ([char; 8], [u8; 3]) {
+fn along(last: u8) -> ([char; 8], [usize; 3]) {
     let mut places = [NO_FACT; 66];
     let mut store = List::new(&mut places);
     chain(&mut store, last);
@@ -124,13 +128,7 @@ fn ranges(rt: HostRuntime) {
 
 // The first 64 bytes are 0 or 1, and the others are still 7.
 fn used_well(sheet: &[u8]) -> bool {
-    for (place, byte) in sheet.iter().enumerate() {
-        let as_it_should = if place < 64 { *byte < 2 } else { *byte == 7 };
-        if !as_it_should {
-            return false;
-        }
-    }
-    true
+    sheet.iter().enumerate().all(|(place, byte)| if place < 64 { *byte < 2 } else { *byte == 7 })
 }
 
 // A sheet of 63 bytes is refused and left, after an entry out of range; of 66 only the first 64 are used.
@@ -152,4 +150,39 @@ fn sheets(rt: HostRuntime) {
     assert_eq!(rt; (short, long), ([7; 63], [7; 66]));
     assert_eq!(rt; told(holds(&mut store, 9, 3, &mut long)), 'y');
     assert_eq!(rt; used_well(&long), true);
+}
+
+// Each call refuses a sheet of 63 bytes, and leaves it.
+#[test]
+fn short_sheets(rt: HostRuntime) {
+    let mut places = [NO_FACT; 1];
+    let mut store = List::new(&mut places);
+    let mut short = [7u8; 63];
+    let answers = [
+        told(reaches(&mut store, 1, 2, &mut short)),
+        told(lies_above(&mut store, 1, 2, &mut short)),
+        told(holds(&mut store, 9, 2, &mut short)),
+        told(carries(&mut store, 1, 5, &mut short)),
+        told(has_permission(&mut store, 9, 5, &mut short)),
+    ];
+    let sizes = [
+        size(roles_reached(&mut store, 1, &mut short)),
+        size(roles_held(&mut store, 9, &mut short)),
+    ];
+    let verdicts = [
+        number(judge(&mut store, Change::Nothing, &mut short)),
+        number(judge_quickly(&mut store, Change::Nothing, &mut short)),
+    ];
+    assert_eq!(rt; (answers, sizes, verdicts), (['2'; 5], [102; 2], [102; 2]));
+    assert_eq!(rt; short, [7; 63]);
+}
+
+#[test]
+fn texts_of_refusals(rt: HostRuntime) -> Result<(), Fail> {
+    let texts = format!(in rt.alloc(); "{}\n{}", Refusal::OutOfRange, Refusal::ShortSheet)?;
+    assert_eq!(rt;
+        texts.as_str(),
+        "a number is out of its range, or names no fact\nthe sheet is shorter than 64 bytes"
+    );
+    Ok(())
 }

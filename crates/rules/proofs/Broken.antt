@@ -2,7 +2,7 @@ use Rattle.std.proofs.Common.{◌≡◌, ℕ, ◌<◌, ◌≤◌, min, max, Bool
 use Rattle.facts.specs.declared.fact.Kind.{Kind}
 use Rattle.facts.specs.declared.fact.Kind.TheVariants.{UserRole, PermissionRole, TaskRole, Senior, Taken}
 use Rattle.facts.specs.declared.fact.Kind.TheVariants.{UserConflict, RoleConflict, PermissionConflict, TaskConflict}
-use Rattle.facts.specs.Facts.{Facts, Not, size, entries}
+use Rattle.facts.specs.Facts.{Facts, size, entries}
 use Rattle.facts.specs.Stores.{Only, Decides}
 use Rattle.facts.proofs.Sets.{not_in, cases_in}
 use Rattle.std.proofs.lemmas.Bool.{both_ways}
@@ -22,7 +22,7 @@ use Rattle.rules.proofs.Reach.{from_role, role_from}
 use Rattle.rules.proofs.Ranged.{ranged_in, ranged_pair}
 
 -- items are apart where none is mixed with another
-apart_from : (k c : Kind) (m : Facts) → ((x : ℕ) → Not (Mixed k c m x)) → Apart k c m
+apart_from : (k c : Kind) (m : Facts) → ((x : ℕ) → ¬ (Mixed k c m x)) → Apart k c m
 apart_from k c m n x y r s e p q = elim (cases_in m (pair RoleConflict r s)) [
   | inl there ↦ there
   | inr absent ↦ absurd (n x (y, r, s, e, p, q, absent))
@@ -62,7 +62,7 @@ module _ (m : Facts) (o : Only m) where
   pub alone : (u : ℕ) → HoldBoth m u u → Breaks PartiesApart m u
   alone u h = (u, inl refl, h)
 
-  pub decides_party : (u : ℕ) (r : Bool) (x : RoleSet) → Exactly x (Holds m u) → Not (HoldBoth m u u)
+  pub decides_party : (u : ℕ) (r : Bool) (x : RoleSet) → Exactly x (Holds m u) → ¬ (HoldBoth m u u)
       → Decides r ((v : ℕ) × (v < 128) × (Conflict UserConflict m u v × Meet (Among x) (Holds m v) true m))
       → Decides r (Breaks PartiesApart m u)
   decides_party u r x e n = decides_as r _ _ to from
@@ -141,7 +141,7 @@ module _ (m : Facts) (o : Only m) where
       (h.0, h.1, s, t, role_from m r h.0 l h.3, role_from m r h.1 l h.4, h.2))
 
 -- the rules by what breaks them
-pub keeps_from : (ρ : Rule) (m : Facts) → ((x : ℕ) → Not (Breaks ρ m x)) → Keeps ρ m
+pub keeps_from : (ρ : Rule) (m : Facts) → ((x : ℕ) → ¬ (Breaks ρ m x)) → Keeps ρ m
 keeps_from NoCycle m n = n
 keeps_from RolesApart m n = λ r s t c p q. n r (s, t, c, p, q)
 keeps_from PartiesApart m n = λ s t u v c w p q. n u (v, w, (s, t, c, p, q))
@@ -149,7 +149,7 @@ keeps_from PermissionsApart m n = apart_from PermissionRole PermissionConflict m
 keeps_from TasksApart m n = apart_from TaskRole TaskConflict m n
 keeps_from TakersApart m n = λ c t q u v p a w x y. n t (q, c, u, v, p, a, w, x, y)
 
-pub breaks_not : (ρ : Rule) (m : Facts) (x : ℕ) → Breaks ρ m x → Not (Keeps ρ m)
+pub breaks_not : (ρ : Rule) (m : Facts) (x : ℕ) → Breaks ρ m x → ¬ (Keeps ρ m)
 breaks_not NoCycle m x b k = k x b
 breaks_not RolesApart m x b k = k x b.0 b.1 b.2 b.3 b.4
 breaks_not PartiesApart m x b k = let w = b.2 in k w.0 w.1 x b.0 w.2 b.1 w.3 w.4

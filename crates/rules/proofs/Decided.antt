@@ -1,7 +1,6 @@
 use Rattle.std.proofs.Common.{◌≡◌, ℕ, ◌+◌, ◌<◌, Bool, true, false, ◌≢◌, List, length, get_or, set, sym, refl, subst, arith, below_more}
 use Rattle.std.proofs.lemmas.Bool.{false≢true}
 use Rattle.std.proofs.lemmas.List.{get_or-set_same, get_or-set_other}
-use Rattle.facts.specs.Facts.{Not}
 use Rattle.facts.specs.Stores.{Decides}
 use Rattle.rules.specs.declared.role_set.RoleSet.{RoleSet}
 use Rattle.rules.specs.Asking.{Among, Exactly}
@@ -15,7 +14,7 @@ pub says_yes : (b : Bool) (P : Type 0) → Decides b P → P → b ≡ true
 says_yes true P d p = refl
 says_yes false P d p = absurd (d p)
 
-pub no_from : (b : Bool) (P : Type 0) → Not P → Decides b P → b ≡ false
+pub no_from : (b : Bool) (P : Type 0) → ¬ P → Decides b P → b ≡ false
 no_from true P n d = absurd (n d)
 no_from false P n d = refl
 

@@ -3,7 +3,7 @@ use Rattle.facts.specs.declared.fact.Kind.{Kind}
 use Rattle.facts.specs.declared.fact.Kind.TheVariants.{UserRole, Senior, UserConflict, RoleConflict, OpenCase, Taken}
 use Rattle.facts.specs.declared.fact.Kind.TheVariants.{AtOdds as odds-kind}
 use Rattle.facts.specs.declared.fact.Fact.{Fact}
-use Rattle.facts.specs.Facts.{Not, Facts, In, number, fact}
+use Rattle.facts.specs.Facts.{Facts, In, number, fact}
 use Rattle.rules.specs.declared.change.Change.{Change}
 use Rattle.rules.specs.declared.change.Change.TheVariants.{Add, Remove}
 use Rattle.rules.specs.declared.rule.Rule.{Rule}
@@ -44,10 +44,10 @@ one_pair : (k : Kind) (f : Fact) → GainsPair k (Add f) (At f.a)
 one_pair k f m x y e = pair_gained f m k x y e
 
 -- a fact of one kind is none of another
-pub differs : (f : Fact) (j k : Kind) → f.kind ≡ number j → Not (number j ≡ number k) → GainsNone k (Add f)
+pub differs : (f : Fact) (j k : Kind) → f.kind ≡ number j → ¬ (number j ≡ number k) → GainsNone k (Add f)
 differs f j k e n = gains_other f k (λ z. n (sym e ∙ z))
 
-cycle : (c : Change) (Z : ℕ → Type 0) (σ : Suspects) → Gains Senior c Z
+cycle : (c : Change) (Z : ℕ → Type 0) (σ : Suspects ℕ) → Gains Senior c Z
     → ((m : Facts) (x : ℕ) → Z x → Suspected σ (after m c) x) → Enough NoCycle c σ
 cycle c Z σ links to m o x b = elim (cycle_located m (after m c) Z (λ r s. links m r s 0) x b) [
   | inl z ↦ inl (z.0, to m z.0 z.1, z.2)
@@ -60,7 +60,7 @@ cycle_link f = cycle (Add f) (At f.a) (One f.a) (one Senior f) (λ m x e. e)
 pub cycle_none : (c : Change) → GainsNone Senior c → Enough NoCycle c Nobody
 cycle_none c g = cycle c Nowhere Nobody (none Senior c Nowhere g) (λ m x e. e)
 
-roles : (c : Change) (Z : ℕ → Type 0) (σ : Suspects) → Gains Senior c Z → GainsPair RoleConflict c Z
+roles : (c : Change) (Z : ℕ → Type 0) (σ : Suspects ℕ) → Gains Senior c Z → GainsPair RoleConflict c Z
     → ((m : Facts) (x z : ℕ) → x < 64 → Z z → Reaches (after m c) x z → Suspected σ (after m c) x) → Enough RolesApart c σ
 roles c Z σ links conflicts to m o x b = elim (roles-located m (after m c) Z (λ r s. links m r s 0) (conflicts m) x b) [
   | inl z ↦ inl (x, to m x z.0 (breaking (after m c) o RolesApart x b) z.1 z.2, b)
@@ -74,7 +74,7 @@ roles_added f = roles (Add f) (At f.a) (Reachers f.a) (one Senior f) (one_pair R
 pub roles_none : (c : Change) → GainsNone Senior c → GainsNone RoleConflict c → Enough RolesApart c Nobody
 roles_none c g h = roles c Nowhere Nobody (none Senior c Nowhere g) (none_pair RoleConflict c Nowhere h) (λ m x z l e p. e)
 
-parties : (c : Change) (Z W : ℕ → Type 0) (σ : Suspects) → Gains Senior c Z → GainsPair RoleConflict c Z → Gains UserRole c W
+parties : (c : Change) (Z W : ℕ → Type 0) (σ : Suspects ℕ) → Gains Senior c Z → GainsPair RoleConflict c Z → Gains UserRole c W
     → GainsPair UserConflict c W
     → ((m : Facts) (x : ℕ) → W x ⊎ ((z : ℕ) × Z z × Holds (after m c) x z) → Suspected σ (after m c) x)
     → Enough PartiesApart c σ
@@ -125,7 +125,7 @@ pub parties_none : (c : Change) → GainsNone UserRole c → GainsNone UserConfl
 parties_none c a u l r = parties c Nowhere Nowhere Nobody (none Senior c Nowhere l) (none_pair RoleConflict c Nowhere r)
     (none UserRole c Nowhere a) (none_pair UserConflict c Nowhere u) (λ m x s. ⊎_elim (λ e. e) (λ z. z.1) s)
 
-items : (k c : Kind) (h : Change) (W Z : ℕ → Type 0) (σ : Suspects) → Gains k h W → GainsPair c h W
+items : (k c : Kind) (h : Change) (W Z : ℕ → Type 0) (σ : Suspects ℕ) → Gains k h W → GainsPair c h W
     → ((m : Facts) (r s : ℕ) → Conflict RoleConflict m r s → Conflict RoleConflict (after m h) r s ⊎ (Z r ⊎ Z s))
     → ((m : Facts) (x : ℕ) → W x ⊎ ((z : ℕ) × Z z × Assigned k (after m h) x z) → Suspected σ (after m h) x)
     → EnoughItems k c h σ
@@ -149,7 +149,7 @@ pub items_none : (k c : Kind) (h : Change) → GainsNone k h → GainsNone c h �
 items_none k c h a p l = items k c h Nowhere Nowhere Nobody (none k h Nowhere a) (none_pair c h Nowhere p)
     (λ m r s e. inl (l m _ _ 0 e)) (λ m x s. ⊎_elim (λ e. e) (λ z. z.1) s)
 
-tasks : (c : Change) (W Z : ℕ → Type 0) (σ : Suspects) → GainsNone OpenCase c → GainsPair odds-kind c W
+tasks : (c : Change) (W Z : ℕ → Type 0) (σ : Suspects ℕ) → GainsNone OpenCase c → GainsPair odds-kind c W
     → ((m : Facts) (d t u : ℕ) → HasTaken (after m c) d t u → HasTaken m d t u ⊎ W t) → GainsPair UserConflict c Z
     → ((m : Facts) (x : ℕ) → W x ⊎ ((z : ℕ) × Z z × ((d : ℕ) × Open (after m c) d × HasTaken (after m c) d x z))
     → Suspected σ (after m c) x)
@@ -194,8 +194,8 @@ pub all_enough : (B : Facts → ℕ → Type 0) (c : Change) → EnoughBy B c Al
 all_enough B c m o x b = inl (x, tt, b)
 
 -- of a change that is known to be one
-pub enough_at : (B : Facts → ℕ → Type 0) (c d : Change) (σ : Suspects) → c ≡ d → EnoughBy B d σ → EnoughBy B c σ
+pub enough_at : (B : Facts → ℕ → Type 0) (c d : Change) (σ : Suspects ℕ) → c ≡ d → EnoughBy B d σ → EnoughBy B c σ
 enough_at B c d σ e h = subst (λ (x : Change). EnoughBy B x σ) (sym e) h
 
-pub enough_of : (ρ q : Rule) (c : Change) (σ : Suspects) → ρ ≡ q → Enough q c σ → Enough ρ c σ
+pub enough_of : (ρ q : Rule) (c : Change) (σ : Suspects ℕ) → ρ ≡ q → Enough q c σ → Enough ρ c σ
 enough_of ρ q c σ e h = subst (λ (x : Rule). Enough x c σ) (sym e) h

@@ -1,40 +1,69 @@
-use Rattle.std.proofs.Common.{Bool, sym, refl, ◌∙◌, subst}
+use Rattle.std.proofs.Common.{ℕ, List, length, refl, ap, ◌∙◌, subst, inl, inr, MutBor}
 use Rattle.facts.specs.declared.store.Store.{Ghosts}
-use Rattle.facts.specs.Facts.{Facts}
-use Rattle.facts.specs.Stores.{Only, Decides}
-use Rattle.rules.specs.declared.change.Change.{Change}
-use Rattle.rules.specs.Asking.{Asks, Finds}
-use Rattle.rules.specs.Changes.{after}
-use Rattle.rules.specs.Judging.{Judges}
-use Rattle.rules.proofs.Decided.{decides_as}
+use Rattle.rules.specs.declared.inquiry.Inquiry.{Inquiry}
+use Rattle.rules.specs.Asking.{Asks}
+use Rattle.rules.specs.Inquiries.{Used, Looks, Walks}
 
 -- a call that does nothing, and one call after another
 pub asks_none : {S : Type 0} (st : Ghosts S) (s : S) → Asks st s s
-asks_none st s = record { facts = refl; spare = refl; kept = λ h. h; outside = st.unmoved s }
+asks_none st s = record { facts = refl; spare = refl; outside = st.unmoved s }
 
 pub asks_on : {S : Type 0} (st : Ghosts S) {s t u : S} → Asks st s t → Asks st t u → Asks st s u
 asks_on st {s} {t} {u} p q = record {
   facts = q.facts ∙ p.facts;
   spare = q.spare ∙ p.spare;
-  kept = λ h. q.kept (p.kept h);
   outside = st.chained s t u p.outside q.outside;
 }
 
--- what a later call finds is true before it too
-pub finds_on : {S : Type 0} (st : Ghosts S) {s t : S} (c : Change) (P : Facts → Type 0)
-    → Asks st s t → Finds st t c P → Finds st s c P
-finds_on st c P a f h o =
-    subst (λ (m : Facts). P (after m c)) a.facts
-    (f (a.kept h) (subst (λ (m : Facts). Only (after m c)) (sym a.facts) o))
+used_on : (a b c : List ℕ) → Used a b → Used b c → Used a c
+used_on a b c p q s l = elim (q s l) [
+  | inl e ↦ inl e
+  | inr w ↦ elim w [
+    | inl e ↦ inr (inl e)
+    | inr e ↦ elim (p s l) [
+      | inl f ↦ inl (e ∙ f)
+      | inr v ↦ elim v [ inl f ↦ inr (inl (e ∙ f)) | inr f ↦ inr (inr (e ∙ f)) ]
+    ]
+  ]
+]
 
--- a yes to one question, and then the answer to another
-pub finds_both : {S : Type 0} (st : Ghosts S) {s t : S} (c : Change) (P Q : Facts → Type 0) (b : Bool)
-    → Asks st s t → Finds st s c P → Finds st t c (λ m. Decides b (Q m)) → Finds st s c (λ m. Decides b (P m × Q m))
-finds_both st {s} c P Q b a p q h o =
-    let m = after (st.facts s) c in
-    decides_as b (Q m) (P m × Q m) (λ y. (p h o, y)) (λ y. y.1) (finds_on st c (λ m. Decides b (Q m)) a q h o)
+pub looks_none : {S : Type 0} {st : Ghosts S} (i : Inquiry S st) → Looks i i
+looks_none {st = st} i = record { asks = asks_none st i.store.now; same = refl; lent = refl; marks = refl }
 
-pub judges_on : {S : Type 0} (st : Ghosts S) {s t : S} (c : Change) (P : Facts → Type 0)
-    → Asks st s t → Judges st t c P → Judges st s c P
-judges_on st c P a f h o =
-    subst P a.facts (f (a.kept h) (subst (λ (m : Facts). Only (after m c)) (sym a.facts) o))
+pub looks_on : {S : Type 0} {st : Ghosts S} {i j k : Inquiry S st} → Looks i j → Looks j k → Looks i k
+looks_on {st = st} p q = record {
+  asks = asks_on st p.asks q.asks;
+  same = q.same ∙ p.same;
+  lent = q.lent ∙ p.lent;
+  marks = q.marks ∙ p.marks;
+}
+
+pub walks_none : {S : Type 0} {st : Ghosts S} (i : Inquiry S st) → Walks i i
+walks_none {st = st} i = record {
+  asks = asks_none st i.store.now;
+  same = refl;
+  lent = refl;
+  sheet = refl;
+  long = refl;
+  used = λ s l. inr (inr refl);
+}
+
+pub walks_on : {S : Type 0} {st : Ghosts S} {i j k : Inquiry S st} → Walks i j → Walks j k → Walks i k
+walks_on {st = st} {i} {j} {k} p q = record {
+  asks = asks_on st p.asks q.asks;
+  same = q.same ∙ p.same;
+  lent = q.lent ∙ p.lent;
+  sheet = q.sheet ∙ p.sheet;
+  long = q.long ∙ p.long;
+  used = used_on i.marks.now j.marks.now k.marks.now p.used q.used;
+}
+
+pub walks_after : {S : Type 0} {st : Ghosts S} {i j k : Inquiry S st} → Looks i j → Walks j k → Walks i k
+walks_after {st = st} {i} {j} {k} p q = record {
+  asks = asks_on st p.asks q.asks;
+  same = q.same ∙ p.same;
+  lent = q.lent ∙ p.lent;
+  sheet = q.sheet ∙ ap (λ (x : MutBor (List ℕ)). x.ghost_name) p.marks;
+  long = q.long ∙ ap (λ (x : MutBor (List ℕ)). length x.now) p.marks;
+  used = subst (λ (x : MutBor (List ℕ)). Used x.now k.marks.now) p.marks q.used;
+}

@@ -2,7 +2,7 @@ use Rattle.std.proofs.Common.{◌≡◌, ℕ, ◌<◌, ◌≤◌, min, max, true
 use Rattle.std.proofs.lemmas.Bool.{cases_Bool, cases_lt, cond-true, false≢true}
 use Rattle.facts.specs.declared.fact.Kind.{Kind}
 use Rattle.facts.specs.declared.fact.Fact.{Fact}
-use Rattle.facts.specs.Facts.{Not, Facts, In, number, fact, with, same_fact}
+use Rattle.facts.specs.Facts.{Facts, In, number, fact, with, same_fact}
 use Rattle.facts.specs.Stores.{IsFact, Only}
 use Rattle.facts.proofs.Sets.{same_eq, with_other}
 use Rattle.rules.specs.declared.change.Change.{Change}
@@ -37,14 +37,14 @@ with_more m f g e = elim (cases_Bool (same_fact f g)) [
 ]
 
 -- changes that add or remove no fact of a kind
-pub gains_other : (f : Fact) (k : Kind) → Not (f.kind ≡ number k) → GainsNone k (Add f)
+pub gains_other : (f : Fact) (k : Kind) → ¬ (f.kind ≡ number k) → GainsNone k (Add f)
 gains_other f k n m x y z e =
     ⊎_elim (λ old. old) (λ q. absurd (n (ap (λ (g : Fact). g.kind) q))) (with_gained m f (fact (number k) x y z) e)
 
 pub gains_removed : (f : Fact) (k : Kind) → GainsNone k (Remove f)
 gains_removed f k m x y z e = with_less m f (fact (number k) x y z) e
 
-pub loses_other : (f : Fact) (k : Kind) → Not (f.kind ≡ number k) → LosesNone k (Remove f)
+pub loses_other : (f : Fact) (k : Kind) → ¬ (f.kind ≡ number k) → LosesNone k (Remove f)
 loses_other f k n m x y z e =
     ⊎_elim (λ old. old) (λ q. absurd (n (ap (λ (g : Fact). g.kind) q))) (with_lost m f (fact (number k) x y z) e)
 

@@ -10,3 +10,4 @@ pub mod Order
 pub mod Ranged
 pub mod Reach
 pub mod Scopes
+pub mod Sheets

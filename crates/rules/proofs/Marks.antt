@@ -3,7 +3,7 @@ use Rattle.std.proofs.lemmas.List.{get_or-set_same, get_or-set_other}
 use Rattle.std.proofs.lemmas.Bool.{cases_eq, cases_Bool}
 use Rattle.std.proofs.lemmas.Bool.Decides.{eqb_tells}
 use Rattle.facts.specs.declared.fact.Kind.TheVariants.{Senior}
-use Rattle.facts.specs.Facts.{Not, Facts}
+use Rattle.facts.specs.Facts.{Facts}
 use Rattle.facts.specs.Stores.{Only}
 use Rattle.rules.proofs.Ranged.{ranged_pair}
 use Rattle.rules.specs.declared.walk.Way.{Way}
@@ -11,7 +11,7 @@ use Rattle.rules.specs.declared.walk.Way.TheVariants.{Down, Up}
 use Rattle.rules.specs.declared.role_set.RoleSet.{RoleSet}
 use Rattle.rules.specs.Asking.{Among, Exactly}
 use Rattle.rules.specs.Roles.{Chain, same, down}
-use Rattle.rules.specs.Walks.{Linked, From, Leads, mark, NonZero, SameRest, Cleared, Pended, Small, Ended, Walking, Walked, undone}
+use Rattle.rules.specs.Walks.{Linked, From, Leads, mark, NonZero, Pended, Small, Ended, Walking, Walked, undone}
 
 -- one more link at the end, and one chain after another
 pub chain_on : {L : ℕ → ℕ → Type 0} {r s t : ℕ} → Chain L r s → Chain L s t → Chain L r t
@@ -53,16 +53,13 @@ undone_less b b' (suc n) r l h d e =
     grind (arith, o, eqb_tells (mark b n) 1, eqb_tells (mark b' n) 1))
     (cases_eq r n)
 
--- the roles of f, put on a sheet that was cleared
-module _ (f : ℕ → Bool) (P Q : ℕ → Type 0) (L : ℕ → ℕ → Type 0) (a b c : List ℕ) (z : Cleared 64 a b) (x : Pended f 64 b c) where
+-- the roles of f, put on marks that were cleared
+module _ (f : ℕ → Bool) (P Q : ℕ → Type 0) (L : ℕ → ℕ → Type 0) (b c : List ℕ) (z : (s : ℕ) → s < 64 → mark b s ≡ 0) (x : Pended f b c) where
   begun : (s : ℕ) → s < 64 → mark c s ≡ cond (f s) 2 0
-  begun s l = x.grown s l (z.zeros s l)
+  begun s l = x.grown s l (z s l)
 
   pub begun_small : Small c
   begun_small s l = grind (arith, begun s l, cases_Bool (f s))
-
-  pub begun_rest : SameRest a c
-  begun_rest s l = x.rest s l ∙ z.rest s l
 
   pub begun_walking : ((s : ℕ) → s < 64 → f s ≡ true → P s) → ((s : ℕ) → s < 64 → P s → f s ≡ true) → Walking L P Q c
   begun_walking only all = record {
@@ -74,7 +71,7 @@ module _ (f : ℕ → Bool) (P Q : ℕ → Type 0) (L : ℕ → ℕ → Type 0) 
 
 -- a turn: r is done, and the roles of f behind it are to be gone on from
 module _ (f : ℕ → Bool) (b b' : List ℕ) (r : ℕ) (k : r < 64) (long : 64 ≤ length b) (two : mark b r ≡ 2)
-    (x : Pended f 64 (set b r 1) b') where
+    (x : Pended f (set b r 1) b') where
   at_r : mark (set b r 1) r ≡ 1
   at_r = get_or-set_same b r 1 0 (omega arith)
 
@@ -89,10 +86,10 @@ module _ (f : ℕ → Bool) (b b' : List ℕ) (r : ℕ) (k : r < 64) (long : 64 
   turn : (s : ℕ) → s < 64 → Turn s
   turn s l = ⊎_elim
       (λ (e : s ≡ r).
-      let q : mark (set b r 1) s ≡ 1 = ap (mark (set b r 1)) e ∙ at_r in inl (e, x.kept s (λ y. omega arith) ∙ q))
+      let q : mark (set b r 1) s ≡ 1 = ap (mark (set b r 1)) e ∙ at_r in inl (e, x.kept s l (λ y. omega arith) ∙ q))
       (λ (d : s ≢ r). ⊎_elim
       (λ (z : mark b s ≡ 0). inr (inr (d, z, x.grown s l (off_r s d ∙ z))))
-      (λ (n : NonZero (mark b s)). inr (inl (d, n, x.kept s (λ y. n (sym (off_r s d) ∙ y)) ∙ off_r s d)))
+      (λ (n : NonZero (mark b s)). inr (inl (d, n, x.kept s l (λ y. n (sym (off_r s d) ∙ y)) ∙ off_r s d)))
       (cases_eq (mark b s) 0))
       (cases_eq s r)
 
@@ -116,16 +113,13 @@ module _ (f : ℕ → Bool) (b b' : List ℕ) (r : ℕ) (k : r < 64) (long : 64 
   turn_small w s l = ⊎_elim (λ t. omega arith)
       (⊎_elim (λ t. omega (arith, w s l)) (λ t. grind (arith, t.2, cases_Bool (f s)))) (turn s l)
 
-  pub turn_rest : (a : List ℕ) → SameRest a b → SameRest a b'
-  turn_rest a w s l = x.rest s l ∙ (off_r s (λ e. omega arith) ∙ w s l)
-
   pub turn_less : undone b' 64 < undone b 64
   turn_less = undone_less b b' 64 r k
       (λ s l e. ⊎_elim (λ t. t.1) (⊎_elim (λ t. t.2 ∙ e) (λ t. omega arith)) (turn s l))
       (λ e. omega arith) (⊎_elim (λ t. t.1) (⊎_elim (λ t. absurd (t.0 refl)) (λ t. absurd (t.0 refl))) (turn r k))
 
   pub turn_walking : (L : ℕ → ℕ → Type 0) (P Q : ℕ → Type 0) → ((s : ℕ) → s < 64 → f s ≡ true → L r s)
-      → ((s : ℕ) → s < 64 → L r s → f s ≡ true) → Not (Q r) → Walking L P Q b → Walking L P Q b'
+      → ((s : ℕ) → s < 64 → L r s → f s ≡ true) → ¬ (Q r) → Walking L P Q b → Walking L P Q b'
   turn_walking L P Q only all goal w = record {
     sound = λ s l n. ⊎_elim
         (λ (t : (s ≡ r) × (mark b' s ≡ 1)). w.sound s l (λ z. omega (arith, two, ap (mark b) t.0)))
@@ -139,7 +133,7 @@ module _ (f : ℕ → Bool) (b b' : List ℕ) (r : ℕ) (k : r < 64) (long : 64 
     further = λ p s j l e f. ⊎_elim
         (λ (t : p ≡ r). under s l (all s l (subst (λ (v : ℕ). L v s) t f)))
         (λ t. stays s l (w.further p s j l t f)) (done_before p j e);
-    unmet = λ s l e. ⊎_elim (λ (t : s ≡ r). subst (λ (v : ℕ). Not (Q v)) (sym t) goal) (λ t. w.unmet s l t) (done_before s l e);
+    unmet = λ s l e. ⊎_elim (λ (t : s ≡ r). subst (λ (v : ℕ). ¬ (Q v)) (sym t) goal) (λ t. w.unmet s l t) (done_before s l e);
   }
 
 -- the end of a walk along links between roles
@@ -157,7 +151,7 @@ module _ (L : ℕ → ℕ → Type 0) (P Q : ℕ → Type 0) (b : List ℕ) (far
   pub walked : Walked L P b
   walked = record { only = λ s l e. w.sound s l (λ z. omega arith); all = reached }
 
-  pub not_led : Not (Leads L P Q)
+  pub not_led : ¬ (Leads L P Q)
   not_led q = let e = reached q.0 q.1 in w.unmet q.0 e.0 e.1 q.2
 
 -- a walk that stopped at a role of Q

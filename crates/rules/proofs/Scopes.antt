@@ -1,10 +1,9 @@
-use Rattle.std.proofs.Common.{◌≡◌, ℕ, ◌<◌, ◌⊎◌, sym, refl, subst, inl, inr}
+use Rattle.std.proofs.Common.{◌≡◌, ℕ, ◌<◌, refl, subst}
 use Rattle.facts.specs.declared.fact.Kind.TheVariants.{UserRole, Taken}
-use Rattle.facts.specs.Facts.{Not, Facts}
+use Rattle.facts.specs.Facts.{Facts}
 use Rattle.facts.specs.Stores.{Only}
 use Rattle.rules.specs.declared.role_set.RoleSet.{RoleSet}
-use Rattle.rules.specs.declared.suspects.Suspects.{Suspects}
-use Rattle.rules.specs.declared.suspects.Suspects.TheVariants.{All, Nobody, One, Reachers, Holders, Items, TakenBy}
+use Rattle.rules.specs.declared.suspects.Suspects.TheVariants.{Reachers, Holders, TakenBy}
 use Rattle.rules.specs.declared.walk.Way.TheVariants.{Up}
 use Rattle.rules.specs.Asking.{Among, Exactly}
 use Rattle.rules.specs.Roles.{Link, Chain, same, down, Reaches}
@@ -19,38 +18,27 @@ back : (L : ℕ → ℕ → Type 0) {r s : ℕ} → Chain L r s → Chain (λ x 
 back L same = same
 back L (down e p) = chain_more (back L p) e
 
-module _ (m : Facts) (o : Only m) (above : RoleSet) where
-  module _ (role : ℕ) (e : Exactly above (From (Linked Up m) (λ x. x ≡ role))) where
+module _ (m : Facts) (o : Only m) where
+  module _ (above : RoleSet) (role : ℕ) (e : Exactly above (From (Linked Up m) (λ x. x ≡ role))) where
     up : (s : ℕ) → Among above s → Reaches m s role
     up s a = let q = e.only s a in subst (λ (x : ℕ). Reaches m s x) q.2 (back (Linked Up m) q.3)
 
     upward : (s : ℕ) → s < 64 → Reaches m s role → Among above s
     upward s l p = e.all s l (role, reached_role m o s role l p, refl, back (Link m) p)
 
-    pub reachers-scoped : Scoped (Reachers role) above m
-    reachers-scoped = record { only = λ x a. (a.0, up x a); all = λ x p. upward x p.0 p.1 }
+    pub reachers_scoped : Scoped (Reachers role) (Reachers above) m
+    reachers_scoped = record { only = λ x a. (a.0, up x a); all = λ x p. upward x p.0 p.1 }
 
-    pub holders-scoped : Scoped (Holders role) above m
-    holders-scoped = record {
+    pub holders_scoped : Scoped (Holders role) (Holders above) m
+    holders_scoped = record {
       only = λ x q. (q.0, q.2.1, up q.0 q.2.0);
       all = λ x h.
           let l = (ranged_pair m o UserRole x h.0 h.1).1 in
           (h.0, l, (upward h.0 l h.2, h.1));
     }
 
-    pub above-scoped : (σ : Suspects) → (σ ≡ Reachers role) ⊎ (σ ≡ Holders role) → Scoped σ above m
-    above-scoped σ (inl q) = subst (λ (x : Suspects). Scoped x above m) (sym q) reachers-scoped
-    above-scoped σ (inr q) = subst (λ (x : Suspects). Scoped x above m) (sym q) holders-scoped
-
-  -- suspects that name no role
-  pub others_scoped : (σ : Suspects) → ((r : ℕ) → Not (σ ≡ Reachers r)) → ((r : ℕ) → Not (σ ≡ Holders r)) → Scoped σ above m
-  others_scoped All p q = record { only = λ x a. a; all = λ x a. a }
-  others_scoped Nobody p q = record { only = λ x a. a; all = λ x a. a }
-  others_scoped (One y) p q = record { only = λ x a. a; all = λ x a. a }
-  others_scoped (Reachers r) p q = absurd (p r refl)
-  others_scoped (Holders r) p q = absurd (q r refl)
-  others_scoped (Items k r) p q = record { only = λ x a. a; all = λ x a. a }
-  others_scoped (TakenBy u) p q = record {
+  pub taken_scoped : (u : ℕ) → Scoped (TakenBy u) (TakenBy u) m
+  taken_scoped u = record {
     only = λ x a. (a.0, a.2.0, a.2.1);
     all = λ x a. (a.0, (ranged_in m o Taken a.0 x u a.2).0, (a.1, a.2));
   }

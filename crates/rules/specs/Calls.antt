@@ -1,5 +1,4 @@
 use Rattle.std.specs.Prelude.{◌≡◌, ℕ, ◌<◌, ◌≤◌, ◌⊎◌, List, Ok, Err, Result, slice_index}
-use Rattle.facts.specs.Facts.{Not}
 use Rattle.rules.specs.declared.refusal.Refusal.{Refusal}
 use Rattle.rules.specs.declared.refusal.Refusal.TheVariants.{OutOfRange, ShortSheet}
 
@@ -11,7 +10,7 @@ refusal_number ShortSheet = 2
 -- how a call ends whose numbers should be inside their ranges, with a sheet of n bytes: by P where it answers
 abbrev pub Answered : {A : Type 0} → Type 0 → ℕ → Result A Refusal → (A → Type 0) → Type 0
 Answered inside n (Ok x) P = inside × (64 ≤ n) × P x
-Answered inside n (Err OutOfRange) P = Not inside
+Answered inside n (Err OutOfRange) P = ¬ inside
 Answered inside n (Err ShortSheet) P = inside × (n < 64)
 
 -- a sheet that was used: each of the first 64 bytes is 0, 1 or its old value, and the others are as they were

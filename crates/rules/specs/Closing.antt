@@ -2,7 +2,7 @@ use Rattle.std.specs.Prelude.{ℕ}
 use Rattle.facts.specs.declared.fact.Kind.{Kind}
 use Rattle.facts.specs.declared.fact.Kind.TheVariants.{PermissionConflict}
 use Rattle.facts.specs.declared.fact.Fact.{Fact}
-use Rattle.facts.specs.Facts.{Not, Facts, In}
+use Rattle.facts.specs.Facts.{Facts, In}
 use Rattle.rules.specs.declared.role_set.RoleSet.{RoleSet}
 use Rattle.rules.specs.Asking.{Among}
 use Rattle.rules.specs.Roles.{Link, Reaches, Above, Holds, Carries, Has, Conflict, Party}
@@ -39,7 +39,7 @@ AddingKeeps = (m m' : Facts) → Grows m m' → NothingLost m m'
 -- no party has two conflicting permissions
 abbrev pub Separate : Facts → Type 0
 Separate m =
-    (u v p q : ℕ) → Party m u v → Conflict PermissionConflict m p q → Has m u p → Not (Has m v q)
+    (u v p q : ℕ) → Party m u v → Conflict PermissionConflict m p q → Has m u p → ¬ (Has m v q)
 
 -- that is so where one party never holds two conflicting roles, and conflicting permissions lie in conflicting roles
 abbrev pub SeparateByRules : Type 0

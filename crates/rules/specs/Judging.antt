@@ -1,10 +1,9 @@
 use Rattle.std.specs.Prelude.{◌≡◌, ℕ, ◌<◌, ◌≤◌, Bool, ◌⊎◌}
 use Rattle.facts.specs.declared.fact.Kind.{Kind}
 use Rattle.facts.specs.declared.fact.Kind.TheVariants.{UserRole, RoleConflict, PermissionRole, PermissionConflict, TaskRole, TaskConflict}
-use Rattle.facts.specs.Facts.{Not, Facts, In, number, fact, size, entries}
+use Rattle.facts.specs.Facts.{Facts, In, number, fact, size, entries}
 use Rattle.facts.specs.Stores.{Only}
 use Rattle.rules.specs.declared.change.Change.{Change}
-use Rattle.facts.specs.declared.store.Store.{Ghosts}
 use Rattle.rules.specs.declared.judge.Judgement.{Judgement}
 use Rattle.rules.specs.declared.judge.Judgement.TheVariants.{Full, Quick}
 use Rattle.rules.specs.declared.role_set.RoleSet.{RoleSet}
@@ -39,7 +38,7 @@ Conflicting k c end = (size (entries k).1 ≤ 64) × Paired c end
 -- an item of the kind k conflicts by the kind c with another, and two of their roles do not conflict
 abbrev pub Mixed : Kind → Kind → Facts → ℕ → Type 0
 Mixed k c m x =
-    (y : ℕ) × (r : ℕ) × (s : ℕ) × Conflict c m x y × Assigned k m x r × Assigned k m y s × Not (Conflict RoleConflict m r s)
+    (y : ℕ) × (r : ℕ) × (s : ℕ) × Conflict c m x y × Assigned k m x r × Assigned k m y s × ¬ (Conflict RoleConflict m r s)
 
 -- what breaks a rule, at one role, user, permission or task
 abbrev pub Breaks : Rule → Facts → ℕ → Type 0
@@ -61,7 +60,7 @@ subjects TasksApart = 32
 subjects TakersApart = 32
 
 -- whom a rule has to be looked at for
-abbrev pub Suspected : Suspects → Facts → ℕ → Type 0
+abbrev pub Suspected : Suspects ℕ → Facts → ℕ → Type 0
 Suspected All m x = Unit {0}
 Suspected Nobody m x = ⊥
 Suspected (One y) m x = x ≡ y
@@ -71,29 +70,29 @@ Suspected (Items k r) m x = Assigned k m x r
 Suspected (TakenBy u) m x = (c : ℕ) × Open m c × HasTaken m c x u
 
 -- the same, where the roles that reach the role are known
-abbrev pub InScope : Suspects → RoleSet → Facts → ℕ → Type 0
-InScope All above m x = Unit {0}
-InScope Nobody above m x = ⊥
-InScope (One y) above m x = x ≡ y
-InScope (Reachers r) above m x = Among above x
-InScope (Holders r) above m x = (s : ℕ) × (s < 64) × (Among above s × Assigned UserRole m x s)
-InScope (Items k r) above m x = Assigned k m x r
-InScope (TakenBy u) above m x = (c : ℕ) × (c < 32) × (Open m c × HasTaken m c x u)
+abbrev pub InScope : Suspects RoleSet → Facts → ℕ → Type 0
+InScope All m x = Unit {0}
+InScope Nobody m x = ⊥
+InScope (One y) m x = x ≡ y
+InScope (Reachers above) m x = Among above x
+InScope (Holders above) m x = (s : ℕ) × (s < 64) × (Among above s × Assigned UserRole m x s)
+InScope (Items k r) m x = Assigned k m x r
+InScope (TakenBy u) m x = (c : ℕ) × (c < 32) × (Open m c × HasTaken m c x u)
 
-pub record Scoped (σ : Suspects) (above : RoleSet) (m : Facts) : Type 0 where
-  pub only : (x : ℕ) → InScope σ above m x → Suspected σ m x
-  pub all : (x : ℕ) → Suspected σ m x → InScope σ above m x
+pub record Scoped (σ : Suspects ℕ) (τ : Suspects RoleSet) (m : Facts) : Type 0 where
+  pub only : (x : ℕ) → InScope τ m x → Suspected σ m x
+  pub all : (x : ℕ) → Suspected σ m x → InScope τ m x
 
 -- what breaks a rule, by B, after the change does so at a suspect, or something broke it before
-abbrev pub EnoughBy : (Facts → ℕ → Type 0) → Change → Suspects → Type 0
+abbrev pub EnoughBy : (Facts → ℕ → Type 0) → Change → Suspects ℕ → Type 0
 EnoughBy B c σ =
     (m : Facts) → Only (after m c) → (x : ℕ)
     → B (after m c) x → ((y : ℕ) × Suspected σ (after m c) y × B (after m c) y) ⊎ ((y : ℕ) × B m y)
 
-abbrev pub Enough : Rule → Change → Suspects → Type 0
+abbrev pub Enough : Rule → Change → Suspects ℕ → Type 0
 Enough ρ = EnoughBy (Breaks ρ)
 
-abbrev pub EnoughItems : Kind → Kind → Change → Suspects → Type 0
+abbrev pub EnoughItems : Kind → Kind → Change → Suspects ℕ → Type 0
 EnoughItems k c = EnoughBy (Mixed k c)
 
 -- what a judgement rests on: a quick one on that the rule held before
@@ -102,14 +101,10 @@ Held Full ρ m = Unit {0}
 Held Quick ρ m = Keeps ρ m
 
 -- what breaks the rule after the change does so at a suspect
-abbrev pub Finding : Judgement → Rule → Change → Suspects → Type 0
+abbrev pub Finding : Judgement → Rule → Change → Suspects ℕ → Type 0
 Finding j ρ c σ =
     (m : Facts) → Only (after m c) → Held j ρ m → (x : ℕ)
     → Breaks ρ (after m c) x → (y : ℕ) × Suspected σ (after m c) y × Breaks ρ (after m c) y
-
--- what a call finds of the facts before a change, in a sound store and where the change leaves only facts in the set
-abbrev pub Judges : {S : Type 0} → Ghosts S → S → Change → (Facts → Type 0) → Type 0
-Judges st s c P = st.sound s → Only (after (st.facts s) c) → P (st.facts s)
 
 -- the change adds, or removes, no fact of the kind
 abbrev pub GainsNone : Kind → Change → Type 0

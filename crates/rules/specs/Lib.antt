@@ -2,6 +2,7 @@ pub mod Asking
 pub mod Calls
 pub mod Changes
 pub mod Closing
+pub mod Inquiries
 pub mod Judging
 pub mod Roles
 pub mod Rules

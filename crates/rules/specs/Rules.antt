@@ -1,7 +1,7 @@
 use Rattle.std.specs.Prelude.{ℕ, ◌<◌, Some, None, Option}
 use Rattle.facts.specs.declared.fact.Kind.{Kind}
 use Rattle.facts.specs.declared.fact.Kind.TheVariants.{RoleConflict, PermissionRole, PermissionConflict, TaskRole, TaskConflict}
-use Rattle.facts.specs.Facts.{Not, Facts}
+use Rattle.facts.specs.Facts.{Facts}
 use Rattle.rules.specs.declared.rule.Rule.{Rule}
 use Rattle.rules.specs.declared.rule.Rule.TheVariants.{NoCycle, RolesApart, PartiesApart, PermissionsApart, TasksApart, TakersApart}
 use Rattle.rules.specs.Roles.{Reaches, Above, Assigned, Holds, Conflict, Party}
@@ -9,15 +9,15 @@ use Rattle.rules.specs.Tasks.{Open, AtOdds, HasTaken}
 
 -- no role lies above itself
 abbrev pub R1 : Facts → Type 0
-R1 m = (r : ℕ) → Not (Above m r r)
+R1 m = (r : ℕ) → ¬ (Above m r r)
 
 -- no role reaches both of two conflicting roles
 abbrev pub R2 : Facts → Type 0
-R2 m = (r s t : ℕ) → Conflict RoleConflict m s t → Reaches m r s → Not (Reaches m r t)
+R2 m = (r s t : ℕ) → Conflict RoleConflict m s t → Reaches m r s → ¬ (Reaches m r t)
 
 -- if two roles conflict, one party does not hold both between them
 abbrev pub R3 : Facts → Type 0
-R3 m = (s t u v : ℕ) → Conflict RoleConflict m s t → Party m u v → Holds m u s → Not (Holds m v t)
+R3 m = (s t u v : ℕ) → Conflict RoleConflict m s t → Party m u v → Holds m u s → ¬ (Holds m v t)
 
 -- if two items conflict by the kind c, every role assigned the one conflicts with every role assigned the other
 abbrev pub Apart : Kind → Kind → Facts → Type 0
@@ -33,7 +33,7 @@ R5 = Apart TaskRole TaskConflict
 
 -- if two tasks are at odds, one party has not taken both in one open case
 abbrev pub R6 : Facts → Type 0
-R6 m = (c t q u v : ℕ) → Open m c → AtOdds m t q → Party m u v → HasTaken m c t u → Not (HasTaken m c q v)
+R6 m = (c t q u v : ℕ) → Open m c → AtOdds m t q → Party m u v → HasTaken m c t u → ¬ (HasTaken m c q v)
 
 -- the number of each rule
 abbrev pub rule_number : Rule → ℕ
@@ -56,4 +56,4 @@ Keeps TakersApart m = R6 m
 -- the first rule in order that the facts break, or none
 abbrev pub First : Facts → Option Rule → Type 0
 First m None = (q : Rule) → Keeps q m
-First m (Some r) = Not (Keeps r m) × ((q : Rule) → rule_number q < rule_number r → Keeps q m)
+First m (Some r) = ¬ (Keeps r m) × ((q : Rule) → rule_number q < rule_number r → Keeps q m)

@@ -1,5 +1,5 @@
-use Rattle.std.specs.Prelude.{◌≡◌, ℕ, zero, suc, ◌+◌, ◌<◌, ◌≤◌, Bool, cond, List, ◌==◌, slice_index}
-use Rattle.facts.specs.Facts.{Facts, Not}
+use Rattle.std.specs.Prelude.{◌≡◌, ℕ, zero, suc, ◌+◌, ◌<◌, Bool, cond, List, ◌==◌, slice_index}
+use Rattle.facts.specs.Facts.{Facts}
 use Rattle.rules.specs.declared.walk.Way.{Way}
 use Rattle.rules.specs.declared.walk.Way.TheVariants.{Down, Up}
 use Rattle.rules.specs.Roles.{Link, Chain}
@@ -24,22 +24,12 @@ abbrev pub mark : List ℕ → ℕ → ℕ
 mark a s = slice_index a s
 
 abbrev pub NonZero : ℕ → Type 0
-NonZero x = Not (x ≡ 0)
+NonZero x = ¬ (x ≡ 0)
 
--- the bytes behind the first 64 are as they were
-abbrev pub SameRest : List ℕ → List ℕ → Type 0
-SameRest a b = (s : ℕ) → 64 ≤ s → mark b s ≡ mark a s
-
--- the first n marks are 0
-pub record Cleared (n : ℕ) (a b : List ℕ) : Type 0 where
-  pub zeros : (s : ℕ) → s < n → mark b s ≡ 0
-  pub rest : (s : ℕ) → n ≤ s → mark b s ≡ mark a s
-
--- of the first n roles, those of f that were not met are to be gone on from
-pub record Pended (f : ℕ → Bool) (n : ℕ) (a b : List ℕ) : Type 0 where
-  pub kept : (s : ℕ) → NonZero (mark a s) → mark b s ≡ mark a s
-  pub grown : (s : ℕ) → s < n → mark a s ≡ 0 → mark b s ≡ cond (f s) 2 0
-  pub rest : (s : ℕ) → n ≤ s → mark b s ≡ mark a s
+-- the roles of f that were not met are to be gone on from
+pub record Pended (f : ℕ → Bool) (a b : List ℕ) : Type 0 where
+  pub kept : (s : ℕ) → s < 64 → NonZero (mark a s) → mark b s ≡ mark a s
+  pub grown : (s : ℕ) → s < 64 → mark a s ≡ 0 → mark b s ≡ cond (f s) 2 0
 
 -- a mark has one of its three values
 abbrev pub Small : List ℕ → Type 0
@@ -47,24 +37,19 @@ Small b = (s : ℕ) → s < 64 → mark b s < 3
 
 -- no role is left to be gone on from
 abbrev pub Ended : List ℕ → Type 0
-Ended b = (s : ℕ) → s < 64 → Not (mark b s ≡ 2)
+Ended b = (s : ℕ) → s < 64 → ¬ (mark b s ≡ 2)
 
 -- a walk under way from the roles of P along L, which has not met a role of Q
 pub record Walking (L : ℕ → ℕ → Type 0) (P Q : ℕ → Type 0) (b : List ℕ) : Type 0 where
   pub sound : (s : ℕ) → s < 64 → NonZero (mark b s) → From L P s
   pub start : (r : ℕ) → r < 64 → P r → NonZero (mark b r)
   pub further : (r s : ℕ) → r < 64 → s < 64 → mark b r ≡ 1 → L r s → NonZero (mark b s)
-  pub unmet : (s : ℕ) → s < 64 → mark b s ≡ 1 → Not (Q s)
+  pub unmet : (s : ℕ) → s < 64 → mark b s ≡ 1 → ¬ (Q s)
 
 -- the walk came to its end: exactly the roles that it leads to are marked
 pub record Walked (L : ℕ → ℕ → Type 0) (P : ℕ → Type 0) (b : List ℕ) : Type 0 where
   pub only : (s : ℕ) → s < 64 → mark b s ≡ 1 → From L P s
   pub all : (s : ℕ) → From L P s → (s < 64) × (mark b s ≡ 1)
-
--- the first 64 bytes are 0 or 1, and the others are as they were
-pub record Swept (a b : List ℕ) : Type 0 where
-  pub bits : (s : ℕ) → s < 64 → mark b s < 2
-  pub rest : SameRest a b
 
 -- how many of the first n are not done
 unfoldable pub undone : List ℕ → ℕ → ℕ

@@ -1,12 +1,12 @@
 // Which rule, the first in order, the facts would break after one change: by looking at all of them, or, where the rules held
 // before, only where the change can break one.
-ghost use Rattle.std.specs.Prelude.{◌≡◌, ℕ, ◌<◌, ◌≤◌, length};
+ghost use Rattle.std.specs.Prelude.{◌≡◌, ℕ, ◌<◌, length};
 ghost use Rattle.facts.specs.declared.fact.Kind.TheVariants.{UserRole};
-ghost use Rattle.facts.specs.Facts.{Not};
 ghost use Rattle.facts.specs.Stores.{Decides};
-ghost use Rattle.rules.specs.Asking.{Asks, Finds, Among};
-ghost use Rattle.rules.specs.Calls.{Answered, Scratch, Sheet};
-ghost use Rattle.rules.specs.Judging.{Breaks, subjects, Suspected, InScope, Scoped, Held, Finding, Judges};
+ghost use Rattle.rules.specs.Asking.{Asks, Among};
+ghost use Rattle.rules.specs.Calls.{Answered, Sheet};
+ghost use Rattle.rules.specs.Inquiries.{facts_of, Walks};
+ghost use Rattle.rules.specs.Judging.{Breaks, subjects, Suspected, InScope, Scoped, Held, Finding};
 ghost use Rattle.rules.specs.Roles.{Assigned};
 ghost use Rattle.rules.specs.Changes.{after, Proper};
 ghost use Rattle.rules.specs.Rules.{Keeps, First};
@@ -15,16 +15,13 @@ ghost use Rattle.rules.specs.declared.rule.Rule.TheVariants.{RolesApart};
 ghost use Rattle.rules.specs.Tasks.{Open, HasTaken};
 
 use crate::change::Change;
-use crate::conflicts::{meet, mixed, party_holds_conflict};
-use crate::question::{Question, any};
+use crate::inquiry::{Inquiry, Trial};
 use crate::refusal::Refusal;
-use crate::relations::{Is, is_above};
+use crate::relations::Is;
 use crate::role_set::RoleSet;
 use crate::rule::Rule;
 use crate::suspects::Suspects;
-use crate::takers::party_took_both;
-use crate::trial::{Trial, some};
-use crate::walk::{Way, roles_from};
+use crate::walk::Way;
 use facts::fact::{Fact, Kind};
 use facts::store::Store;
 
@@ -44,12 +41,11 @@ struct Within {
     roles: RoleSet,
 }
 
-impl Question for Within {
-    ghost says = { λ q m s. Among q.roles s × Assigned UserRole m q.user s };
+impl Trial for Within {
+    ghost shows = { λ q m s. Among q.roles s × Assigned UserRole m q.user s };
 
-    fn ask<S: Store>(&self, store: &mut S, change: Change, n: u8) -> bool {
-        self.roles.contains(n as u32)
-            && change.has(store, Fact::new(Kind::UserRole, self.user, n, 0))
+    fn run<S: Store>(&self, inquiry: &mut Inquiry<S>, n: u8) -> bool {
+        self.roles.contains(n as u32) && inquiry.has(Fact::new(Kind::UserRole, self.user, n, 0))
     }
 }
 
@@ -60,115 +56,42 @@ struct TakenIn {
     user: u8,
 }
 
-impl Question for TakenIn {
-    ghost says = { λ q m c. Open m c × HasTaken m c q.task q.user };
+impl Trial for TakenIn {
+    ghost shows = { λ q m c. Open m c × HasTaken m c q.task q.user };
 
-    fn ask<S: Store>(&self, store: &mut S, change: Change, n: u8) -> bool {
-        change.is_open(store, n) && change.has_taken(store, n, self.task, self.user)
+    fn run<S: Store>(&self, inquiry: &mut Inquiry<S>, n: u8) -> bool {
+        inquiry.is_open(n) && inquiry.has_taken(n, self.task, self.user)
     }
 }
 
-// The suspects, with the roles that reach the role that they name.
-#[derive(Clone, Copy)]
-struct Scope {
-    suspects: Suspects,
-    above: RoleSet,
-}
+impl Trial for Suspects<RoleSet> {
+    ghost shows = { InScope };
 
-impl Question for Scope {
-    ghost says = { λ q m x. InScope q.suspects q.above m x };
-
-    fn ask<S: Store>(&self, store: &mut S, change: Change, n: u8) -> bool {
-        match self.suspects {
+    fn run<S: Store>(&self, inquiry: &mut Inquiry<S>, n: u8) -> bool {
+        match *self {
             Suspects::All => true,
             Suspects::Nobody => false,
             Suspects::One(only) => n == only,
-            Suspects::Reachers(_) => self.above.contains(n as u32),
-            Suspects::Holders(_) => {
-                let within = Within {
-                    user: n,
-                    roles: self.above,
-                };
-                any(store, change, &within, 64)
-            }
-            Suspects::Items(kind, role) => change.has(store, Fact::new(kind, n, role, 0)),
-            Suspects::TakenBy(user) => any(store, change, &TakenIn { task: n, user }, 32),
+            Suspects::Reachers(roles) => roles.contains(n as u32),
+            Suspects::Holders(roles) => inquiry.any(&Within { user: n, roles }, 64),
+            Suspects::Items(kind, role) => inquiry.has(Fact::new(kind, n, role, 0)),
+            Suspects::TakenBy(user) => inquiry.any(&TakenIn { task: n, user }, 32),
         }
     }
-}
-
-// The roles that reach the role that the suspects name, if they name one.
-fn reachers<S: Store>(
-    store: &mut S,
-    change: Change,
-    suspects: Suspects,
-    sheet: &mut [u8],
-) -> RoleSet
-    requires { 64 ≤ length sheet.old }
-    ensures value { Finds S.Store store.old change (λ m. Scoped suspects result m) }
-    ensures sheet { Scratch sheet.old sheet.new }
-    ensures asks { Asks S.Store store.old store.new }
-{
-    match suspects {
-        Suspects::Reachers(role) | Suspects::Holders(role) => roles_from(
-            store,
-            change,
-            &Is(role),
-            Way::Up,
-            sheet,
-        ),
-        _ => RoleSet {
-            members: [false; 64],
-        },
-    }
-}
-
-// Whether the rule is broken at a role, a user, a permission or a task.
-fn breaks<S: Store>(store: &mut S, change: Change, rule: Rule, x: u8, sheet: &mut [u8]) -> bool
-    requires { 64 ≤ length sheet.old }
-    ensures value { Finds S.Store store.old change (λ m. Decides result (Breaks rule m x)) }
-    ensures sheet { Scratch sheet.old sheet.new }
-    ensures asks { Asks S.Store store.old store.new }
-{
-    match rule {
-        Rule::NoCycle => is_above(store, change, x, x, sheet),
-        Rule::RolesApart => reaches_conflict(store, change, x, sheet),
-        Rule::PartiesApart => party_holds_conflict(store, change, x, sheet),
-        Rule::PermissionsApart => mixed(
-            store,
-            change,
-            Kind::PermissionRole,
-            Kind::PermissionConflict,
-            x,
-            64,
-        ),
-        Rule::TasksApart => mixed(store, change, Kind::TaskRole, Kind::TaskConflict, x, 32),
-        Rule::TakersApart => party_took_both(store, change, x),
-    }
-}
-
-fn reaches_conflict<S: Store>(store: &mut S, change: Change, role: u8, sheet: &mut [u8]) -> bool
-    requires { 64 ≤ length sheet.old }
-    ensures value { Finds S.Store store.old change (λ m. Decides result (Breaks RolesApart m role)) }
-    ensures sheet { Scratch sheet.old sheet.new }
-    ensures asks { Asks S.Store store.old store.new }
-{
-    let reached = roles_from(store, change, &Is(role), Way::Down, sheet);
-    meet(store, change, reached, reached, true)
 }
 
 // The suspects at whom a rule is broken.
 #[derive(Clone, Copy)]
 struct Fault {
     rule: Rule,
-    scope: Scope,
+    suspects: Suspects<RoleSet>,
 }
 
 impl Trial for Fault {
-    ghost shows = { λ q m x. InScope q.scope.suspects q.scope.above m x × Breaks q.rule m x };
+    ghost shows = { λ q m x. InScope q.suspects m x × Breaks q.rule m x };
 
-    fn run<S: Store>(&self, store: &mut S, change: Change, n: u8, sheet: &mut [u8]) -> bool {
-        self.scope.ask(store, change, n) && breaks(store, change, self.rule, n, sheet)
+    fn run<S: Store>(&self, inquiry: &mut Inquiry<S>, n: u8) -> bool {
+        self.suspects.run(inquiry, n) && inquiry.breaks(self.rule, n)
     }
 }
 
@@ -188,26 +111,80 @@ impl Rule {
     }
 }
 
-// Whether the rule is broken at a suspect.
-fn broken_at<S: Store>(
-    store: &mut S,
-    change: Change,
-    rule: Rule,
-    suspects: Suspects,
-    sheet: &mut [u8],
-) -> bool
-    requires { 64 ≤ length sheet.old }
-    ensures value { Finds S.Store store.old change
-        (λ m. Decides result ((x : ℕ) × Suspected suspects m x × Breaks rule m x)) }
-    ensures sheet { Scratch sheet.old sheet.new }
-    ensures asks { Asks S.Store store.old store.new }
-{
-    let above = reachers(store, change, suspects, sheet);
-    let fault = Fault {
-        rule,
-        scope: Scope { suspects, above },
-    };
-    some(store, change, &fault, rule.subjects(), sheet)
+impl<'s, 'm, S: Store> Inquiry<'s, 'm, S> {
+    // The same suspects, by the roles that reach the role that they are found by.
+    #[tactic(auto, using(crate::proofs::Scopes::reachers_scoped, crate::proofs::Scopes::holders_scoped, crate::proofs::Scopes::taken_scoped))]
+    fn find(&mut self, suspects: Suspects<u8>) -> Suspects<RoleSet>
+        ensures value { Scoped suspects result (facts_of self.old) }
+        ensures walks { Walks self.old self.new }
+    {
+        match suspects {
+            Suspects::All => Suspects::All,
+            Suspects::Nobody => Suspects::Nobody,
+            Suspects::One(only) => Suspects::One(only),
+            Suspects::Reachers(role) => Suspects::Reachers(self.roles_from(&Is(role), Way::Up)),
+            Suspects::Holders(role) => Suspects::Holders(self.roles_from(&Is(role), Way::Up)),
+            Suspects::Items(kind, role) => Suspects::Items(kind, role),
+            Suspects::TakenBy(user) => Suspects::TakenBy(user),
+        }
+    }
+
+    // Whether the rule is broken at a role, a user, a permission or a task.
+    fn breaks(&mut self, rule: Rule, x: u8) -> bool
+        ensures value { Decides result (Breaks rule (facts_of self.old) x) }
+        ensures walks { Walks self.old self.new }
+    {
+        match rule {
+            Rule::NoCycle => self.is_above(x, x),
+            Rule::RolesApart => self.reaches_conflict(x),
+            Rule::PartiesApart => self.party_holds_conflict(x),
+            Rule::PermissionsApart => {
+                self.mixed(Kind::PermissionRole, Kind::PermissionConflict, x, 64)
+            }
+            Rule::TasksApart => self.mixed(Kind::TaskRole, Kind::TaskConflict, x, 32),
+            Rule::TakersApart => self.party_took_both(x),
+        }
+    }
+
+    fn reaches_conflict(&mut self, role: u8) -> bool
+        ensures value { Decides result (Breaks RolesApart (facts_of self.old) role) }
+        ensures walks { Walks self.old self.new }
+    {
+        let reached = self.roles_from(&Is(role), Way::Down);
+        self.meet(reached, reached, true)
+    }
+
+    // Whether the rule is broken at a suspect.
+    fn broken_at(&mut self, rule: Rule, suspects: Suspects<u8>) -> bool
+        ensures value { Decides result ((x : ℕ) × Suspected suspects (facts_of self.old) x × Breaks rule (facts_of self.old) x) }
+        ensures walks { Walks self.old self.new }
+    {
+        let suspects = self.find(suspects);
+        self.any(&Fault { rule, suspects }, rule.subjects())
+    }
+
+    // Whether the facts keep the rule after the change.
+    fn keeps(&mut self, judgement: Judgement, rule: Rule) -> bool
+        ensures value { Held judgement rule (S.facts self.old.store.now) → Decides result (Keeps rule (facts_of self.old)) }
+        ensures walks { Walks self.old self.new }
+    {
+        let suspects = judgement.suspects(rule, self.change);
+        !self.broken_at(rule, suspects)
+    }
+
+    // The first rule that the facts break after the change.
+    #[tactic(auto, using(crate::proofs::Frame::walks_on))]
+    fn first_broken(&mut self, judgement: Judgement) -> Option<Rule>
+        ensures value { ((q : Rule) → Held judgement q (S.facts self.old.store.now)) → First (facts_of self.old) result }
+        ensures walks { Walks self.old self.new }
+    {
+        for rule in ORDER {
+            if !self.keeps(judgement, rule) {
+                return Some(rule);
+            }
+        }
+        None
+    }
 }
 
 // A full judgement looks everywhere; a quick one only where the change can break a rule that held before.
@@ -218,7 +195,7 @@ enum Judgement {
 }
 
 impl Judgement {
-    fn suspects(self, rule: Rule, change: Change) -> Suspects
+    fn suspects(self, rule: Rule, change: Change) -> Suspects<u8>
         ensures { Finding self rule change result }
     {
         match self {
@@ -226,34 +203,28 @@ impl Judgement {
             Judgement::Quick => rule.suspects(change),
         }
     }
+}
 
-    // Whether the facts keep the rule after the change.
-    fn kept<S: Store>(self, store: &mut S, change: Change, rule: Rule, sheet: &mut [u8]) -> bool
-        requires { 64 ≤ length sheet.old }
-        ensures value { Judges S.Store store.old change
-            (λ m. Held self rule m → Decides result (Keeps rule (after m change))) }
-        ensures sheet { Scratch sheet.old sheet.new }
-        ensures asks { Asks S.Store store.old store.new }
-    {
-        let suspects = self.suspects(rule, change);
-        !broken_at(store, change, rule, suspects, sheet)
-    }
-
-    // The first rule that the facts break after the change.
-    fn first_broken<S: Store>(self, store: &mut S, change: Change, sheet: &mut [u8]) -> Option<Rule>
-        requires { 64 ≤ length sheet.old }
-        ensures value { S.sound store.old → Proper change
-            → ((q : Rule) → Held self q (S.facts store.old)) → First (after (S.facts store.old) change) result }
-        ensures sheet { Scratch sheet.old sheet.new }
-        ensures asks { Asks S.Store store.old store.new }
-    {
-        for rule in &ORDER {
-            if !self.kept(store, change, *rule, sheet) {
-                return Some(*rule);
-            }
-        }
-        None
-    }
+#[tactic(auto, using(crate::proofs::Gains::only_after))]
+fn judge_by<S: Store>(
+    judgement: Judgement,
+    store: &mut S,
+    change: Change,
+    sheet: &mut [u8],
+) -> Result<Option<Rule>, Refusal>
+    ensures answer { Answered (Proper change) (length sheet.old) result
+        (λ o. ((q : Rule) → Held judgement q (S.facts store.old)) → First (after (S.facts store.old) change) o) }
+    ensures sheet { Sheet result sheet.old sheet.new }
+    ensures asks { Asks S.Store store.old store.new }
+{
+    change.admit()?;
+    let marks = sheet.first_chunk_mut().ok_or(Refusal::ShortSheet)?;
+    let mut inquiry = Inquiry {
+        store,
+        change,
+        marks,
+    };
+    Ok(inquiry.first_broken(judgement))
 }
 
 // Which rule, the first in order, the facts would break after the change.
@@ -263,12 +234,11 @@ pub fn judge<S: Store>(
     sheet: &mut [u8],
 ) -> Result<Option<Rule>, Refusal>
     ensures answer { Answered (Proper change) (length sheet.old) result
-        (λ o. S.sound store.old → First (after (S.facts store.old) change) o) }
+        (λ o. First (after (S.facts store.old) change) o) }
     ensures sheet { Sheet result sheet.old sheet.new }
     ensures asks { Asks S.Store store.old store.new }
 {
-    change.admit(sheet)?;
-    Ok(Judgement::Full.first_broken(store, change, sheet))
+    judge_by(Judgement::Full, store, change, sheet)
 }
 
 // The same, where the rules held before: looks only where the change can break one.
@@ -278,11 +248,9 @@ pub fn judge_quickly<S: Store>(
     sheet: &mut [u8],
 ) -> Result<Option<Rule>, Refusal>
     ensures answer { Answered (Proper change) (length sheet.old) result
-        (λ o. S.sound store.old → ((q : Rule) → Keeps q (S.facts store.old))
-        → First (after (S.facts store.old) change) o) }
+        (λ o. ((q : Rule) → Keeps q (S.facts store.old)) → First (after (S.facts store.old) change) o) }
     ensures sheet { Sheet result sheet.old sheet.new }
     ensures asks { Asks S.Store store.old store.new }
 {
-    change.admit(sheet)?;
-    Ok(Judgement::Quick.first_broken(store, change, sheet))
+    judge_by(Judgement::Quick, store, change, sheet)
 }

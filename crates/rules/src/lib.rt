@@ -3,9 +3,9 @@
 
 pub mod change;
 mod conflicts;
+mod inquiry;
 pub mod judge;
 pub mod laws;
-mod question;
 pub mod refusal;
 mod relations;
 pub mod role_set;
@@ -13,5 +13,4 @@ pub mod roles;
 pub mod rule;
 mod suspects;
 mod takers;
-mod trial;
 mod walk;

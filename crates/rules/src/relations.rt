@@ -1,14 +1,13 @@
-// Who lies above, holds and has what, after a change.
-ghost use Rattle.std.specs.Prelude.{◌≡◌, ◌≤◌, length};
+// Who lies above, holds and has what, after the change.
+ghost use Rattle.std.specs.Prelude.{◌≡◌};
 ghost use Rattle.facts.specs.Stores.{Decides};
-ghost use Rattle.rules.specs.Asking.{Asks, Finds, Exactly};
-ghost use Rattle.rules.specs.Calls.{Scratch};
+ghost use Rattle.rules.specs.Asking.{Exactly};
+ghost use Rattle.rules.specs.Inquiries.{facts_of, Walks};
 ghost use Rattle.rules.specs.Roles.{Assigned, Above, Holds, Has};
 
-use crate::change::Change;
-use crate::question::Question;
+use crate::inquiry::{Inquiry, Question};
 use crate::role_set::RoleSet;
-use crate::walk::{Next, Way, leads, roles_from};
+use crate::walk::{Next, Way};
 use facts::fact::{Fact, Kind};
 use facts::store::Store;
 
@@ -19,105 +18,64 @@ pub(crate) struct Is(pub(crate) u8);
 impl Question for Is {
     ghost says = { λ q _ s. s ≡ q.0 };
 
-    fn ask<S: Store>(&self, _store: &mut S, _change: Change, n: u8) -> bool {
+    fn ask<S: Store>(&self, _inquiry: &mut Inquiry<S>, n: u8) -> bool {
         n == self.0
     }
 }
 
-// The roles that a user, a permission or a task is assigned to.
+// The roles that a user, a permission or a task is assigned to, by the kind.
 #[derive(Clone, Copy)]
-pub(crate) struct RolesOf {
-    pub(crate) kind: Kind,
-    pub(crate) item: u8,
-}
+pub(crate) struct RolesOf(pub(crate) Kind, pub(crate) u8);
 
 impl Question for RolesOf {
-    ghost says = { λ q m s. Assigned q.kind m q.item s };
+    ghost says = { λ q m s. Assigned q.0 m q.1 s };
 
-    fn ask<S: Store>(&self, store: &mut S, change: Change, n: u8) -> bool {
-        change.has(store, Fact::new(self.kind, self.item, n, 0))
+    fn ask<S: Store>(&self, inquiry: &mut Inquiry<S>, n: u8) -> bool {
+        inquiry.has(Fact::new(self.0, self.1, n, 0))
     }
 }
 
-// Whether one role lies above another.
-pub(crate) fn is_above<S: Store>(
-    store: &mut S,
-    change: Change,
-    senior: u8,
-    junior: u8,
-    sheet: &mut [u8],
-) -> bool
-    requires { 64 ≤ length sheet.old }
-    ensures value { Finds S.Store store.old change (λ m. Decides result (Above m senior junior)) }
-    ensures sheet { Scratch sheet.old sheet.new }
-    ensures asks { Asks S.Store store.old store.new }
-{
-    let juniors = Next {
-        way: Way::Down,
-        role: senior,
-    };
-    leads(store, change, &juniors, &Is(junior), sheet)
-}
+impl<'s, 'm, S: Store> Inquiry<'s, 'm, S> {
+    // Whether one role lies above another.
+    #[tactic(auto, using(crate::proofs::Reach::decides_above))]
+    pub(crate) fn is_above(&mut self, senior: u8, junior: u8) -> bool
+        ensures value { Decides result (Above (facts_of self.old) senior junior) }
+        ensures walks { Walks self.old self.new }
+    {
+        let juniors = Next {
+            way: Way::Down,
+            role: senior,
+        };
+        self.leads(&juniors, &Is(junior))
+    }
 
-// Whether a user holds a role.
-pub(crate) fn user_holds<S: Store>(
-    store: &mut S,
-    change: Change,
-    user: u8,
-    role: u8,
-    sheet: &mut [u8],
-) -> bool
-    requires { 64 ≤ length sheet.old }
-    ensures value { Finds S.Store store.old change (λ m. Decides result (Holds m user role)) }
-    ensures sheet { Scratch sheet.old sheet.new }
-    ensures asks { Asks S.Store store.old store.new }
-{
-    let assigned = RolesOf {
-        kind: Kind::UserRole,
-        item: user,
-    };
-    leads(store, change, &assigned, &Is(role), sheet)
-}
+    // Whether a user holds a role.
+    #[tactic(auto, using(crate::proofs::Reach::decides_holding))]
+    pub(crate) fn user_holds(&mut self, user: u8, role: u8) -> bool
+        ensures value { Decides result (Holds (facts_of self.old) user role) }
+        ensures walks { Walks self.old self.new }
+    {
+        self.leads(&RolesOf(Kind::UserRole, user), &Is(role))
+    }
 
-// Whether a user has a permission.
-pub(crate) fn user_has<S: Store>(
-    store: &mut S,
-    change: Change,
-    user: u8,
-    permission: u8,
-    sheet: &mut [u8],
-) -> bool
-    requires { 64 ≤ length sheet.old }
-    ensures value { Finds S.Store store.old change (λ m. Decides result (Has m user permission)) }
-    ensures sheet { Scratch sheet.old sheet.new }
-    ensures asks { Asks S.Store store.old store.new }
-{
-    let assigned = RolesOf {
-        kind: Kind::UserRole,
-        item: user,
-    };
-    let granted = RolesOf {
-        kind: Kind::PermissionRole,
-        item: permission,
-    };
-    leads(store, change, &assigned, &granted, sheet)
-}
+    // Whether a user has a permission.
+    #[tactic(auto, using(crate::proofs::Reach::decides_having))]
+    pub(crate) fn user_has(&mut self, user: u8, permission: u8) -> bool
+        ensures value { Decides result (Has (facts_of self.old) user permission) }
+        ensures walks { Walks self.old self.new }
+    {
+        self.leads(
+            &RolesOf(Kind::UserRole, user),
+            &RolesOf(Kind::PermissionRole, permission),
+        )
+    }
 
-// The roles that a user holds.
-pub(crate) fn held_by<S: Store>(
-    store: &mut S,
-    change: Change,
-    user: u8,
-    sheet: &mut [u8],
-) -> RoleSet
-    requires { 64 ≤ length sheet.old }
-    ensures value { Finds S.Store store.old change (λ m. Exactly result (Holds m user)) }
-    ensures sheet { Scratch sheet.old sheet.new }
-    ensures asks { Asks S.Store store.old store.new }
-{
-    let assigned = RolesOf {
-        kind: Kind::UserRole,
-        item: user,
-    };
-    roles_from(store, change, &assigned, Way::Down, sheet)
+    // The roles that a user holds.
+    #[tactic(auto, using(crate::proofs::Reach::exactly_held))]
+    pub(crate) fn held_by(&mut self, user: u8) -> RoleSet
+        ensures value { Exactly result (Holds (facts_of self.old) user) }
+        ensures walks { Walks self.old self.new }
+    {
+        self.roles_from(&RolesOf(Kind::UserRole, user), Way::Down)
+    }
 }

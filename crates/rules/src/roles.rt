@@ -6,10 +6,11 @@ ghost use Rattle.rules.specs.Calls.{Answered, Sheet};
 ghost use Rattle.rules.specs.Roles.{Reaches, Above, Holds, Carries, Has};
 
 use crate::change::Change;
+use crate::inquiry::Inquiry;
 use crate::refusal::{Refusal, admit};
-use crate::relations::{Is, RolesOf, held_by, is_above, user_has, user_holds};
+use crate::relations::{Is, RolesOf};
 use crate::role_set::RoleSet;
-use crate::walk::{Way, leads, roles_from};
+use crate::walk::Way;
 use facts::fact::{Entry, Kind};
 use facts::store::Store;
 
@@ -21,12 +22,18 @@ pub fn reaches<S: Store>(
     sheet: &mut [u8],
 ) -> Result<bool, Refusal>
     ensures answer { Answered ((senior < 64) × (junior < 64)) (length sheet.old) result
-        (λ b. S.sound store.old → Decides b (Reaches (S.facts store.old) senior junior)) }
+        (λ b. Decides b (Reaches (S.facts store.old) senior junior)) }
     ensures sheet { Sheet result sheet.old sheet.new }
     ensures asks { Asks S.Store store.old store.new }
 {
-    let (senior, junior) = admit(Entry::Role, senior, Entry::Role, junior, sheet)?;
-    Ok(leads(store, Change::Nothing, &Is(senior), &Is(junior), sheet))
+    let (senior, junior) = admit(Entry::Role, senior, Entry::Role, junior)?;
+    let marks = sheet.first_chunk_mut().ok_or(Refusal::ShortSheet)?;
+    let mut inquiry = Inquiry {
+        store,
+        change: Change::Nothing,
+        marks,
+    };
+    Ok(inquiry.leads(&Is(senior), &Is(junior)))
 }
 
 // Whether the first role lies above the second.
@@ -37,12 +44,18 @@ pub fn lies_above<S: Store>(
     sheet: &mut [u8],
 ) -> Result<bool, Refusal>
     ensures answer { Answered ((senior < 64) × (junior < 64)) (length sheet.old) result
-        (λ b. S.sound store.old → Decides b (Above (S.facts store.old) senior junior)) }
+        (λ b. Decides b (Above (S.facts store.old) senior junior)) }
     ensures sheet { Sheet result sheet.old sheet.new }
     ensures asks { Asks S.Store store.old store.new }
 {
-    let (senior, junior) = admit(Entry::Role, senior, Entry::Role, junior, sheet)?;
-    Ok(is_above(store, Change::Nothing, senior, junior, sheet))
+    let (senior, junior) = admit(Entry::Role, senior, Entry::Role, junior)?;
+    let marks = sheet.first_chunk_mut().ok_or(Refusal::ShortSheet)?;
+    let mut inquiry = Inquiry {
+        store,
+        change: Change::Nothing,
+        marks,
+    };
+    Ok(inquiry.is_above(senior, junior))
 }
 
 // Whether a user holds a role.
@@ -53,12 +66,18 @@ pub fn holds<S: Store>(
     sheet: &mut [u8],
 ) -> Result<bool, Refusal>
     ensures answer { Answered ((user < 128) × (role < 64)) (length sheet.old) result
-        (λ b. S.sound store.old → Decides b (Holds (S.facts store.old) user role)) }
+        (λ b. Decides b (Holds (S.facts store.old) user role)) }
     ensures sheet { Sheet result sheet.old sheet.new }
     ensures asks { Asks S.Store store.old store.new }
 {
-    let (user, role) = admit(Entry::User, user, Entry::Role, role, sheet)?;
-    Ok(user_holds(store, Change::Nothing, user, role, sheet))
+    let (user, role) = admit(Entry::User, user, Entry::Role, role)?;
+    let marks = sheet.first_chunk_mut().ok_or(Refusal::ShortSheet)?;
+    let mut inquiry = Inquiry {
+        store,
+        change: Change::Nothing,
+        marks,
+    };
+    Ok(inquiry.user_holds(user, role))
 }
 
 // Whether a role carries a permission.
@@ -69,16 +88,18 @@ pub fn carries<S: Store>(
     sheet: &mut [u8],
 ) -> Result<bool, Refusal>
     ensures answer { Answered ((role < 64) × (permission < 64)) (length sheet.old) result
-        (λ b. S.sound store.old → Decides b (Carries (S.facts store.old) role permission)) }
+        (λ b. Decides b (Carries (S.facts store.old) role permission)) }
     ensures sheet { Sheet result sheet.old sheet.new }
     ensures asks { Asks S.Store store.old store.new }
 {
-    let (role, permission) = admit(Entry::Role, role, Entry::Permission, permission, sheet)?;
-    let granted = RolesOf {
-        kind: Kind::PermissionRole,
-        item: permission,
+    let (role, permission) = admit(Entry::Role, role, Entry::Permission, permission)?;
+    let marks = sheet.first_chunk_mut().ok_or(Refusal::ShortSheet)?;
+    let mut inquiry = Inquiry {
+        store,
+        change: Change::Nothing,
+        marks,
     };
-    Ok(leads(store, Change::Nothing, &Is(role), &granted, sheet))
+    Ok(inquiry.leads(&Is(role), &RolesOf(Kind::PermissionRole, permission)))
 }
 
 // Whether a user has a permission.
@@ -89,12 +110,18 @@ pub fn has_permission<S: Store>(
     sheet: &mut [u8],
 ) -> Result<bool, Refusal>
     ensures answer { Answered ((user < 128) × (permission < 64)) (length sheet.old) result
-        (λ b. S.sound store.old → Decides b (Has (S.facts store.old) user permission)) }
+        (λ b. Decides b (Has (S.facts store.old) user permission)) }
     ensures sheet { Sheet result sheet.old sheet.new }
     ensures asks { Asks S.Store store.old store.new }
 {
-    let (user, permission) = admit(Entry::User, user, Entry::Permission, permission, sheet)?;
-    Ok(user_has(store, Change::Nothing, user, permission, sheet))
+    let (user, permission) = admit(Entry::User, user, Entry::Permission, permission)?;
+    let marks = sheet.first_chunk_mut().ok_or(Refusal::ShortSheet)?;
+    let mut inquiry = Inquiry {
+        store,
+        change: Change::Nothing,
+        marks,
+    };
+    Ok(inquiry.user_has(user, permission))
 }
 
 // The roles that a role reaches.
@@ -104,21 +131,33 @@ pub fn roles_reached<S: Store>(
     sheet: &mut [u8],
 ) -> Result<RoleSet, Refusal>
     ensures answer { Answered (role < 64) (length sheet.old) result
-        (λ x. S.sound store.old → Exactly x (Reaches (S.facts store.old) role)) }
+        (λ x. Exactly x (Reaches (S.facts store.old) role)) }
     ensures sheet { Sheet result sheet.old sheet.new }
     ensures asks { Asks S.Store store.old store.new }
 {
-    let (role, _) = admit(Entry::Role, role, Entry::Unused, 0, sheet)?;
-    Ok(roles_from(store, Change::Nothing, &Is(role), Way::Down, sheet))
+    let (role, _) = admit(Entry::Role, role, Entry::Unused, 0)?;
+    let marks = sheet.first_chunk_mut().ok_or(Refusal::ShortSheet)?;
+    let mut inquiry = Inquiry {
+        store,
+        change: Change::Nothing,
+        marks,
+    };
+    Ok(inquiry.roles_from(&Is(role), Way::Down))
 }
 
 // The roles that a user holds.
 pub fn roles_held<S: Store>(store: &mut S, user: u32, sheet: &mut [u8]) -> Result<RoleSet, Refusal>
     ensures answer { Answered (user < 128) (length sheet.old) result
-        (λ x. S.sound store.old → Exactly x (Holds (S.facts store.old) user)) }
+        (λ x. Exactly x (Holds (S.facts store.old) user)) }
     ensures sheet { Sheet result sheet.old sheet.new }
     ensures asks { Asks S.Store store.old store.new }
 {
-    let (user, _) = admit(Entry::User, user, Entry::Unused, 0, sheet)?;
-    Ok(held_by(store, Change::Nothing, user, sheet))
+    let (user, _) = admit(Entry::User, user, Entry::Unused, 0)?;
+    let marks = sheet.first_chunk_mut().ok_or(Refusal::ShortSheet)?;
+    let mut inquiry = Inquiry {
+        store,
+        change: Change::Nothing,
+        marks,
+    };
+    Ok(inquiry.held_by(user))
 }

@@ -9,15 +9,16 @@ use crate::change::Change;
 use crate::rule::Rule;
 use facts::fact::{Fact, Kind};
 
+// The role that some of them are found by is a number, or, once a walk has gone up from it, the roles that reach it.
 #[derive(Clone, Copy)]
-pub(crate) enum Suspects {
+pub(crate) enum Suspects<R> {
     All,
     Nobody,
     One(u8),
     // The roles that reach the role.
-    Reachers(u8),
+    Reachers(R),
     // The users who hold the role.
-    Holders(u8),
+    Holders(R),
     // What is assigned to the role, by the kind.
     Items(Kind, u8),
     // The tasks that the user has taken in an open case.
@@ -26,39 +27,29 @@ pub(crate) enum Suspects {
 
 impl Change {
     // The fact that is added, if it is of the kind.
+    #[tactic(auto, using(crate::proofs::Gains::gains_other))]
     fn added(self, kind: Kind) -> Option<Fact>
         ensures { MatchOption result (GainsNone kind self) (λ f. (self ≡ Add f) × (f.kind ≡ number kind)) }
     {
         match self {
-            Change::Add(fact) => {
-                if fact.kind == kind.number() {
-                    Some(fact)
-                } else {
-                    None
-                }
-            }
-            Change::Nothing | Change::Remove(_) => None,
+            Change::Add(fact) if fact.kind == kind.into() => Some(fact),
+            _ => None,
         }
     }
 
     // The fact that is removed, if it is of the kind.
+    #[tactic(auto, using(crate::proofs::Gains::loses_other))]
     fn removed(self, kind: Kind) -> Option<Fact>
         ensures { MatchOption result (LosesNone kind self) (λ f. (self ≡ Remove f) × (f.kind ≡ number kind)) }
     {
         match self {
-            Change::Remove(fact) => {
-                if fact.kind == kind.number() {
-                    Some(fact)
-                } else {
-                    None
-                }
-            }
-            Change::Nothing | Change::Add(_) => None,
+            Change::Remove(fact) if fact.kind == kind.into() => Some(fact),
+            _ => None,
         }
     }
 }
 
-fn cycle_suspects(change: Change) -> Suspects
+fn cycle_suspects(change: Change) -> Suspects<u8>
     ensures { Enough NoCycle change result }
 {
     if let Some(link) = change.added(Kind::Senior) {
@@ -67,7 +58,7 @@ fn cycle_suspects(change: Change) -> Suspects
     Suspects::Nobody
 }
 
-fn role_suspects(change: Change) -> Suspects
+fn role_suspects(change: Change) -> Suspects<u8>
     ensures { Enough RolesApart change result }
 {
     if let Some(link) = change.added(Kind::Senior) {
@@ -79,7 +70,7 @@ fn role_suspects(change: Change) -> Suspects
     Suspects::Nobody
 }
 
-fn party_suspects(change: Change) -> Suspects
+fn party_suspects(change: Change) -> Suspects<u8>
     ensures { Enough PartiesApart change result }
 {
     if let Some(assigned) = change.added(Kind::UserRole) {
@@ -98,7 +89,7 @@ fn party_suspects(change: Change) -> Suspects
 }
 
 // Of items that are assigned to roles, and conflict, by these kinds.
-fn item_suspects(change: Change, assigned: Kind, conflict: Kind) -> Suspects
+fn item_suspects(change: Change, assigned: Kind, conflict: Kind) -> Suspects<u8>
     ensures { EnoughItems assigned conflict change result }
 {
     if let Some(added) = change.added(assigned) {
@@ -113,7 +104,7 @@ fn item_suspects(change: Change, assigned: Kind, conflict: Kind) -> Suspects
     Suspects::Nobody
 }
 
-fn taker_suspects(change: Change) -> Suspects
+fn taker_suspects(change: Change) -> Suspects<u8>
     ensures { Enough TakersApart change result }
 {
     if let Some(odds) = change.added(Kind::AtOdds) {
@@ -125,7 +116,7 @@ fn taker_suspects(change: Change) -> Suspects
     if let Some(conflict) = change.added(Kind::UserConflict) {
         return Suspects::TakenBy(conflict.a);
     }
-    if let Some(_) = change.added(Kind::OpenCase) {
+    if change.added(Kind::OpenCase).is_some() {
         return Suspects::All;
     }
     Suspects::Nobody
@@ -133,7 +124,7 @@ fn taker_suspects(change: Change) -> Suspects
 
 impl Rule {
     // Where the change can break the rule, if it held before.
-    pub(crate) fn suspects(self, change: Change) -> Suspects
+    pub(crate) fn suspects(self, change: Change) -> Suspects<u8>
         ensures { Enough self change result }
     {
         match self {

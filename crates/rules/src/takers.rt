@@ -1,39 +1,15 @@
 // Whether one party has taken two tasks at odds in one open case.
 ghost use Rattle.std.specs.Prelude.{ℕ, ◌<◌};
 ghost use Rattle.facts.specs.Stores.{Decides};
-ghost use Rattle.rules.specs.Asking.{Asks, Finds};
+ghost use Rattle.rules.specs.Inquiries.{facts_of, Looks, Walks};
 ghost use Rattle.rules.specs.Judging.{Breaks};
 ghost use Rattle.rules.specs.Roles.{Party};
 ghost use Rattle.rules.specs.Tasks.{Open, AtOdds, HasTaken};
 ghost use Rattle.rules.specs.declared.rule.Rule.TheVariants.{TakersApart};
 
-use crate::change::Change;
-use crate::question::{Question, any};
+use crate::inquiry::{Inquiry, Trial};
 use facts::fact::{Fact, Kind};
 use facts::store::Store;
-
-impl Change {
-    pub(crate) fn is_open<S: Store>(self, store: &mut S, case: u8) -> bool
-        ensures value { Finds S.Store store.old self (λ m. Decides result (Open m case)) }
-        ensures asks { Asks S.Store store.old store.new }
-    {
-        self.has(store, Fact::new(Kind::OpenCase, case, 0, 0))
-    }
-
-    pub(crate) fn has_taken<S: Store>(self, store: &mut S, case: u8, task: u8, user: u8) -> bool
-        ensures value { Finds S.Store store.old self (λ m. Decides result (HasTaken m case task user)) }
-        ensures asks { Asks S.Store store.old store.new }
-    {
-        self.has(store, Fact::new(Kind::Taken, case, task, user))
-    }
-
-    fn at_odds<S: Store>(self, store: &mut S, t: u8, q: u8) -> bool
-        ensures value { Finds S.Store store.old self (λ m. Decides result (AtOdds m t q)) }
-        ensures asks { Asks S.Store store.old store.new }
-    {
-        self.pairs(store, Kind::AtOdds, t, q)
-    }
-}
 
 // The users of one party with a user who have taken the task in the case.
 #[derive(Clone, Copy)]
@@ -43,11 +19,11 @@ struct Partners {
     user: u8,
 }
 
-impl Question for Partners {
-    ghost says = { λ q m v. HasTaken m q.case q.task v × Party m q.user v };
+impl Trial for Partners {
+    ghost shows = { λ q m v. HasTaken m q.case q.task v × Party m q.user v };
 
-    fn ask<S: Store>(&self, store: &mut S, change: Change, n: u8) -> bool {
-        change.has_taken(store, self.case, self.task, n) && change.party(store, self.user, n)
+    fn run<S: Store>(&self, inquiry: &mut Inquiry<S>, n: u8) -> bool {
+        inquiry.has_taken(self.case, self.task, n) && inquiry.party(self.user, n)
     }
 }
 
@@ -59,17 +35,17 @@ struct Takers {
     other: u8,
 }
 
-impl Question for Takers {
-    ghost says = { λ q m u. HasTaken m q.case q.one u
+impl Trial for Takers {
+    ghost shows = { λ q m u. HasTaken m q.case q.one u
         × ((v : ℕ) × (v < 128) × (HasTaken m q.case q.other v × Party m u v)) };
 
-    fn ask<S: Store>(&self, store: &mut S, change: Change, n: u8) -> bool {
+    fn run<S: Store>(&self, inquiry: &mut Inquiry<S>, n: u8) -> bool {
         let partners = Partners {
             case: self.case,
             task: self.other,
             user: n,
         };
-        change.has_taken(store, self.case, self.one, n) && any(store, change, &partners, 128)
+        inquiry.has_taken(self.case, self.one, n) && inquiry.any(&partners, 128)
     }
 }
 
@@ -80,18 +56,18 @@ struct Cases {
     other: u8,
 }
 
-impl Question for Cases {
-    ghost says = { λ q m c. Open m c
+impl Trial for Cases {
+    ghost shows = { λ q m c. Open m c
         × ((u : ℕ) × (u < 128) × (HasTaken m c q.one u
         × ((v : ℕ) × (v < 128) × (HasTaken m c q.other v × Party m u v)))) };
 
-    fn ask<S: Store>(&self, store: &mut S, change: Change, n: u8) -> bool {
+    fn run<S: Store>(&self, inquiry: &mut Inquiry<S>, n: u8) -> bool {
         let takers = Takers {
             case: n,
             one: self.one,
             other: self.other,
         };
-        change.is_open(store, n) && any(store, change, &takers, 128)
+        inquiry.is_open(n) && inquiry.any(&takers, 128)
     }
 }
 
@@ -99,24 +75,48 @@ impl Question for Cases {
 #[derive(Clone, Copy)]
 struct Odds(u8);
 
-impl Question for Odds {
-    ghost says = { λ q m t. AtOdds m q.0 t × ((c : ℕ) × (c < 32) × (Open m c
+impl Trial for Odds {
+    ghost shows = { λ q m t. AtOdds m q.0 t × ((c : ℕ) × (c < 32) × (Open m c
         × ((u : ℕ) × (u < 128) × (HasTaken m c q.0 u
         × ((v : ℕ) × (v < 128) × (HasTaken m c t v × Party m u v)))))) };
 
-    fn ask<S: Store>(&self, store: &mut S, change: Change, n: u8) -> bool {
+    fn run<S: Store>(&self, inquiry: &mut Inquiry<S>, n: u8) -> bool {
         let cases = Cases {
             one: self.0,
             other: n,
         };
-        change.at_odds(store, self.0, n) && any(store, change, &cases, 32)
+        inquiry.at_odds(self.0, n) && inquiry.any(&cases, 32)
     }
 }
 
-// Whether a party has taken the task and one at odds with it in one open case.
-pub(crate) fn party_took_both<S: Store>(store: &mut S, change: Change, task: u8) -> bool
-    ensures value { Finds S.Store store.old change (λ m. Decides result (Breaks TakersApart m task)) }
-    ensures asks { Asks S.Store store.old store.new }
-{
-    any(store, change, &Odds(task), 32)
+impl<'s, 'm, S: Store> Inquiry<'s, 'm, S> {
+    pub(crate) fn is_open(&mut self, case: u8) -> bool
+        ensures value { Decides result (Open (facts_of self.old) case) }
+        ensures looks { Looks self.old self.new }
+    {
+        self.has(Fact::new(Kind::OpenCase, case, 0, 0))
+    }
+
+    pub(crate) fn has_taken(&mut self, case: u8, task: u8, user: u8) -> bool
+        ensures value { Decides result (HasTaken (facts_of self.old) case task user) }
+        ensures looks { Looks self.old self.new }
+    {
+        self.has(Fact::new(Kind::Taken, case, task, user))
+    }
+
+    fn at_odds(&mut self, t: u8, q: u8) -> bool
+        ensures value { Decides result (AtOdds (facts_of self.old) t q) }
+        ensures looks { Looks self.old self.new }
+    {
+        self.pairs(Kind::AtOdds, t, q)
+    }
+
+    // Whether a party has taken the task and one at odds with it in one open case.
+    #[tactic(auto, using(crate::proofs::Broken::decides_took))]
+    pub(crate) fn party_took_both(&mut self, task: u8) -> bool
+        ensures value { Decides result (Breaks TakersApart (facts_of self.old) task) }
+        ensures walks { Walks self.old self.new }
+    {
+        self.any(&Odds(task), 32)
+    }
 }

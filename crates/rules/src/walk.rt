@@ -1,13 +1,13 @@
-// The walk through the role network. While it runs each of the sheet's first 64 bytes is the mark of a role: 0 not met, 1
-// done, 2 still to be gone on from. Each role is gone on from at most once, by 64 look-ups.
-ghost use Rattle.std.specs.Prelude.{◌≡◌, ℕ, ◌<◌, ◌≤◌, false, length, MatchOption, slice_index_or};
+// The walk through the role network. While it runs each mark is 0 for a role not met, 1 for one that is done, 2 for one still to
+// be gone on from. Each role is gone on from at most once, by 64 look-ups.
+ghost use Rattle.std.specs.Prelude.{◌≡◌, ℕ, ◌<◌, false, length, MatchOption, slice_index_or};
 ghost use Rattle.facts.specs.Stores.{Decides};
-ghost use Rattle.rules.specs.Asking.{Asks, Finds, Among, Exactly};
+ghost use Rattle.rules.specs.Asking.{Among, Exactly};
+ghost use Rattle.rules.specs.Inquiries.{facts_of, Walks};
 ghost use Rattle.rules.specs.Roles.{Link};
-ghost use Rattle.rules.specs.Walks.{Linked, From, Leads, mark, Cleared, Pended, Ended, Walked, Swept};
+ghost use Rattle.rules.specs.Walks.{Linked, From, Leads, mark, Pended, Ended, Walked};
 
-use crate::change::Change;
-use crate::question::{Question, collect};
+use crate::inquiry::{Inquiry, Question};
 use crate::role_set::RoleSet;
 use facts::fact::{Fact, Kind};
 use facts::store::Store;
@@ -19,50 +19,42 @@ pub(crate) enum Way {
     Up,
 }
 
-fn clear(sheet: &mut [u8])
-    requires { 64 ≤ length sheet.old }
-    ensures { Cleared 64 sheet.old sheet.new }
+// No role is met.
+fn clear(marks: &mut [u8; 64])
+    ensures zeros { (s : ℕ) → s < 64 → mark marks.new s ≡ 0 }
+    ensures long { length marks.new ≡ length marks.old }
 {
-    for s in 0..64usize {
-        sheet[s] = 0;
-    }
+    marks.fill(0);
 }
 
 // Has the walk go on from each role of the set that it has not met.
-fn pend(roles: &RoleSet, sheet: &mut [u8])
-    requires { 64 ≤ length sheet.old }
-    ensures { Pended (λ s. slice_index_or roles.now.members s false) 64 sheet.old sheet.new }
+fn pend(roles: &RoleSet, marks: &mut [u8; 64])
+    ensures pended { Pended (λ s. slice_index_or roles.now.members s false) marks.old marks.new }
+    ensures long { length marks.new ≡ length marks.old }
 {
-    for s in 0..64usize {
-        if sheet[s] == 0 && roles.members[s] {
-            sheet[s] = 2;
+    for (role, member) in roles.members.iter().enumerate() {
+        if *member && marks[role] == 0 {
+            marks[role] = 2;
         }
     }
 }
 
 // A role to go on from.
-fn pending(sheet: &[u8]) -> Option<u8>
-    requires { 64 ≤ length sheet.now }
-    ensures { MatchOption result (Ended sheet.now) (λ s. (s < 64) × (mark sheet.now s ≡ 2)) }
+fn pending(marks: &[u8; 64]) -> Option<u8>
+    ensures role { MatchOption result (Ended marks.now) (λ s. (s < 64) × (mark marks.now s ≡ 2)) }
+    ensures all { length marks.now ≡ 64 }
 {
-    for s in 0..64u8 {
-        if sheet[s as usize] == 2 {
-            return Some(s);
-        }
-    }
-    None
+    let role = marks.iter().position(|mark| *mark == 2)?;
+    Some(role as u8)
 }
 
 // The roles that are done.
-fn done(sheet: &[u8]) -> RoleSet
-    requires { 64 ≤ length sheet.now }
-    ensures { Exactly result (λ s. mark sheet.now s ≡ 1) }
+fn done(marks: &[u8; 64]) -> RoleSet
+    ensures { Exactly result (λ s. mark marks.now s ≡ 1) }
 {
-    let mut members = [false; 64];
-    for s in 0..64usize {
-        members[s] = sheet[s] == 1;
+    RoleSet {
+        members: marks.map(|mark| mark == 1),
     }
-    RoleSet { members }
 }
 
 // The roles that are one link further.
@@ -75,63 +67,12 @@ pub(crate) struct Next {
 impl Question for Next {
     ghost says = { λ q m s. Linked q.way m q.role s };
 
-    fn ask<S: Store>(&self, store: &mut S, change: Change, n: u8) -> bool {
-        let link = match self.way {
+    fn ask<S: Store>(&self, inquiry: &mut Inquiry<S>, n: u8) -> bool {
+        inquiry.has(match self.way {
             Way::Down => Fact::new(Kind::Senior, self.role, n, 0),
             Way::Up => Fact::new(Kind::Senior, n, self.role, 0),
-        };
-        change.has(store, link)
+        })
     }
-}
-
-// Walks from the roles of a set, and tells whether it comes to one that is the goal. It asks this of each role before it goes
-// on from it, and ends there. A walk that came to none has marked exactly the roles that it came to.
-fn walk<S: Store, G: Question>(
-    store: &mut S,
-    change: Change,
-    first: &RoleSet,
-    way: Way,
-    goal: &G,
-    sheet: &mut [u8],
-) -> bool
-    requires { 64 ≤ length sheet.old }
-    ensures value { Finds S.Store store.old change (λ m. Decides result
-        (Leads (Linked way m) (Among first.now) (G.says goal.now m))) }
-    ensures marks { result ≡ false → Finds S.Store store.old change (λ m.
-        Walked (Linked way m) (Among first.now) sheet.new) }
-    ensures sheet { Swept sheet.old sheet.new }
-    ensures asks { Asks S.Store store.old store.new }
-{
-    clear(sheet);
-    pend(first, sheet);
-    while let Some(role) = pending(sheet) {
-        sheet[role as usize] = 1;
-        if goal.ask(store, change, role) {
-            clear(sheet);
-            return true;
-        }
-        let next = collect(store, change, &Next { way, role });
-        pend(&next, sheet);
-    }
-    false
-}
-
-// Whether a walk from the roles of the start leads to a role that is the goal.
-pub(crate) fn leads<S: Store, A: Question, G: Question>(
-    store: &mut S,
-    change: Change,
-    start: &A,
-    goal: &G,
-    sheet: &mut [u8],
-) -> bool
-    requires { 64 ≤ length sheet.old }
-    ensures value { Finds S.Store store.old change (λ m. Decides result
-        (Leads (Link m) (A.says start.now m) (G.says goal.now m))) }
-    ensures sheet { Swept sheet.old sheet.new }
-    ensures asks { Asks S.Store store.old store.new }
-{
-    let first = collect(store, change, start);
-    walk(store, change, &first, Way::Down, goal, sheet)
 }
 
 // No role is the goal.
@@ -141,26 +82,54 @@ struct Never;
 impl Question for Never {
     ghost says = { λ _ _ _. ⊥ };
 
-    fn ask<S: Store>(&self, _store: &mut S, _change: Change, _n: u8) -> bool {
+    fn ask<S: Store>(&self, _inquiry: &mut Inquiry<S>, _n: u8) -> bool {
         false
     }
 }
 
-// The roles that a walk from the roles of the start leads to.
-pub(crate) fn roles_from<S: Store, A: Question>(
-    store: &mut S,
-    change: Change,
-    start: &A,
-    way: Way,
-    sheet: &mut [u8],
-) -> RoleSet
-    requires { 64 ≤ length sheet.old }
-    ensures value { Finds S.Store store.old change (λ m.
-        Exactly result (From (Linked way m) (A.says start.now m))) }
-    ensures sheet { Swept sheet.old sheet.new }
-    ensures asks { Asks S.Store store.old store.new }
-{
-    let first = collect(store, change, start);
-    walk(store, change, &first, way, &Never, sheet);
-    done(sheet)
+impl<'s, 'm, S: Store> Inquiry<'s, 'm, S> {
+    // Walks from the roles of a set, and tells whether it comes to one that is the goal. It asks this of each role before it goes
+    // on from it, and ends there. A walk that came to none has marked exactly the roles that it came to.
+    fn walk<G: Question>(&mut self, first: &RoleSet, way: Way, goal: &G) -> bool
+        ensures value { Decides result
+            (Leads (Linked way (facts_of self.old)) (Among first.now) (G.says goal.now (facts_of self.old))) }
+        ensures marks { result ≡ false → Walked (Linked way (facts_of self.old)) (Among first.now) self.new.marks.now }
+        ensures walks { Walks self.old self.new }
+    {
+        let marks = &mut *self.marks;
+        clear(marks);
+        pend(first, marks);
+        while let Some(role) = pending(self.marks) {
+            self.marks[role as usize] = 1;
+            if goal.ask(self, role) {
+                let marks = &mut *self.marks;
+                clear(marks);
+                return true;
+            }
+            let next = self.collect(&Next { way, role });
+            let marks = &mut *self.marks;
+            pend(&next, marks);
+        }
+        false
+    }
+
+    // Whether a walk from the roles of the start leads to a role that is the goal.
+    pub(crate) fn leads<A: Question, G: Question>(&mut self, start: &A, goal: &G) -> bool
+        ensures value { Decides result
+            (Leads (Link (facts_of self.old)) (A.says start.now (facts_of self.old)) (G.says goal.now (facts_of self.old))) }
+        ensures walks { Walks self.old self.new }
+    {
+        let first = self.collect(start);
+        self.walk(&first, Way::Down, goal)
+    }
+
+    // The roles that a walk from the roles of the start leads to.
+    pub(crate) fn roles_from<A: Question>(&mut self, start: &A, way: Way) -> RoleSet
+        ensures value { Exactly result (From (Linked way (facts_of self.old)) (A.says start.now (facts_of self.old))) }
+        ensures walks { Walks self.old self.new }
+    {
+        let first = self.collect(start);
+        self.walk(&first, way, &Never);
+        done(self.marks)
+    }
 }

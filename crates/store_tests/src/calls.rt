@@ -7,7 +7,7 @@ use facts::store::Store;
 pub(crate) fn put<S: Store>(store: &mut S, fact: Fact) -> u8 {
     match store.put(fact) {
         Ok(_) => 0,
-        Err(refusal) => refusal.number(),
+        Err(refusal) => refusal.into(),
     }
 }
 

@@ -1,5 +1,5 @@
 // The ranges of the kinds' entries, the numbers of the kinds, and the numbering of the facts.
-use facts::fact::{Fact, Kind};
+use facts::fact::{Fact, Kind, UnknownKind};
 use facts::refusal::Refusal;
 use grid::numbering::bit_number;
 use std::test::Fail;
@@ -123,12 +123,12 @@ fn every_range_ends_where_it_should(rt: HostRuntime) {
 
 #[test]
 fn twelve_kinds_from_1(rt: HostRuntime) -> Result<(), Fail> {
-    assert_eq!(rt; Kind::of_number(0), None);
-    assert_eq!(rt; Kind::of_number(13), None);
-    assert_eq!(rt; Kind::of_number(255), None);
+    assert_eq!(rt; Kind::try_from(0).ok(), None);
+    assert_eq!(rt; Kind::try_from(13).ok(), None);
+    assert_eq!(rt; Kind::try_from(255).ok(), None);
     for number in 1..13 {
-        let kind = Kind::of_number(number).ok_or("no kind")?;
-        assert_eq!(rt; kind.number(), number);
+        let kind = Kind::try_from(number)?;
+        assert_eq!(rt; u8::from(kind), number);
     }
     assert_eq!(rt;
         Fact::new(Kind::Taken, 3, 5, 20),
@@ -182,6 +182,17 @@ fn numbers_run_on_from_kind_to_kind(rt: HostRuntime) -> Result<(), Fail> {
 
 #[test]
 fn refusals_have_their_numbers(rt: HostRuntime) {
-    assert_eq!(rt; Refusal::NoFact.number(), 1);
-    assert_eq!(rt; Refusal::Full.number(), 23);
+    assert_eq!(rt; u8::from(Refusal::NoFact), 1);
+    assert_eq!(rt; u8::from(Refusal::Full), 23);
+}
+
+#[test]
+fn errors_have_their_texts(rt: HostRuntime) -> Result<(), Fail> {
+    let no_fact = format!(in rt.alloc(); "{}", Refusal::NoFact)?;
+    assert_eq!(rt; no_fact.as_str(), "the four numbers are no fact");
+    let full = format!(in rt.alloc(); "{}", Refusal::Full)?;
+    assert_eq!(rt; full.as_str(), "the store has no spare");
+    let unknown = format!(in rt.alloc(); "{}", UnknownKind(13))?;
+    assert_eq!(rt; unknown.as_str(), "no kind has the number 13");
+    Ok(())
 }

@@ -2,4 +2,4 @@ use Rattle.grid.proofs.Flips.{turned_bit}
 use Rattle.grid.proofs.flipped.Goals as goal
 
 pub returns : goal.returns
-returns c k h = turned_bit c.args.byte c.args.place k c.requires h
+returns c k = turned_bit c.args.byte c.args.place k c.requires

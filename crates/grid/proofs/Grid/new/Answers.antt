@@ -1,36 +1,32 @@
-use Rattle.std.proofs.Common.{◌≡◌, ℕ, ◌<◌, true, false, cond, leb, List, length, drop, refl, ap, ◌∙◌, arith}
-use Rattle.std.proofs.lemmas.Bool.{lt-leb, both_ways}
-use Rattle.grid.specs.Bits.{bit, enough}
-use Rattle.grid.proofs.Grids.{blank_empty, blank_counted, clear_bit}
+use Rattle.std.proofs.Common.{refl, ap, drop, arith, rules}
+use Rattle.grid.proofs.Grids.{Blank, blank_empty, blank_counted, clear_blank, clear_rest, narrow_blank}
 use Rattle.grid.proofs.Grid.new.Goals as goal
-use Rattle.grid.proofs.Grid.new.Goals.{then-bytes-ge-BYTES, else-bytes-ge-BYTES}
+use Rattle.grid.proofs.Grid.new.Goals.{in-Some, in_default, Joined-first_chunk_mut}
 
-pub returns : goal.returns
-returns c =
-    let xs = c.args.bytes.now in
-    let ys = c.if-bytes-ge-BYTES.bytes in
-    let blank : (i : ℕ) → enough ys ≡ true → i < 177184 → bit ys i ≡ false =
-    elim c.if-bytes-ge-BYTES.branch [
-      | then-bytes-ge-BYTES w ↦ λ i _ h. ap (λ (l : List ℕ). bit l i) w.bytes-is ∙ clear_bit _ w.clear.ensures.zero i h
-      | else-bytes-ge-BYTES w ↦ λ i e _.
-          absurd (both_ways (enough ys) (lt-leb 22148 (length ys) (omega (arith, c.if-bytes-ge-BYTES.auto.bytes, w.if-bytes-ge-BYTES.false))) e)
-    ] in
+blank : (c : Joined-first_chunk_mut) → Blank c.match-first_chunk_mut.bytes
+blank c = elim c.match-first_chunk_mut.branch [
+  | in-Some w ↦ clear_blank _ _ _ _ _ w.in-Some.ensures.cases (w.fill.ensures.after (search rules)) w.bytes-is refl
+  | in_default w ↦ narrow_blank _ (omega (arith, c.match-first_chunk_mut.auto.bytes, w.in_default.ensures.cases))
+]
+
+pub invariant_of-result : goal.invariant_of-result
+invariant_of-result c = record { counted = blank_counted _ (blank c) }
+
+pub returns-clause-empty : goal.returns-clause-empty
+returns-clause-empty c = blank_empty _ (blank (goal.at.returns-clause-empty c).Joined-first_chunk_mut)
+
+pub returns-clause-outside : goal.returns-clause-outside
+returns-clause-outside c = elim c.match-first_chunk_mut.branch [
+  | in-Some w ↦ (
     record {
-      sound = blank_counted ys blank;
-      empty = blank_empty ys blank;
-      spare = ap (λ (n : ℕ). cond (leb 22148 n) 177184 0) c.if-bytes-ge-BYTES.auto.bytes;
-      outside = (
-        record {
-          named = refl;
-          long = c.if-bytes-ge-BYTES.auto.bytes;
-          rest = elim c.if-bytes-ge-BYTES.branch [
-            | then-bytes-ge-BYTES w ↦ ap (drop 22148) w.bytes-is ∙ w.clear.ensures.rest.rest
-            | else-bytes-ge-BYTES w ↦ ap (drop 22148) w.bytes-is
-          ];
-        },
-        elim c.if-bytes-ge-BYTES.branch [
-          | then-bytes-ge-BYTES w ↦ λ h. absurd (omega (arith, w.if-bytes-ge-BYTES.true))
-          | else-bytes-ge-BYTES w ↦ λ _. w.bytes-is
-        ],
-      );
-    }
+      named = refl;
+      long = c.match-first_chunk_mut.auto.bytes;
+      rest = clear_rest _ _ _ _ _ w.in-Some.ensures.cases (w.fill.ensures.after (search rules)) w.bytes-is;
+    },
+    λ h. absurd (omega (arith, w.in-Some.ensures.cases)),
+  )
+  | in_default w ↦ (
+    record { named = refl; long = c.match-first_chunk_mut.auto.bytes; rest = ap (drop 22148) w.bytes-is },
+    λ _. w.bytes-is,
+  )
+]

@@ -1,14 +1,16 @@
-use Rattle.std.proofs.Common.{sym}
-use Rattle.grid.proofs.Grids.{wide_keeps, flipped_in}
+use Rattle.std.proofs.Common.{false, arith, rules}
+use Rattle.grid.proofs.Grids.{Turned, put_fits, put_counted, put_does}
 use Rattle.grid.proofs.GridStore.put.Goals as goal
+use Rattle.grid.proofs.GridStore.put.Goals.{After-flip}
 
-pub returns : goal.returns
-returns c =
-    let s = c.args.self.now in
-    let t = c.flip.new.self in
-    let flip = c.flip.ensures in
-    let wide = sym c.if-not-is_wide.ensures in
-    let put = flipped_in s.bytes.now t.bytes.now c.args.fact c.in-Some.number s.count t.count
-    c.in-Some.ensures.value wide flip.outside.long flip.bits flip.count
-    c.if-holds.ensures c.if-self-ge-FACTS.false in
-    record { kept = λ h. (put h).0; does = λ h. (put h).1; outside = wide_keeps s.bytes t.bytes wide flip.outside }
+turned : (c : After-flip) → Turned c.args.self.now.bytes.now c.flip.new.bytes c.args.fact c.in-Some.number c.args.self.now.count false
+turned c = search rules
+
+pub overflow_add-count : goal.overflow_add-count
+overflow_add-count c = omega (arith, put_fits (turned (goal.at.overflow_add-count c).After-flip))
+
+pub invariant_of-self : goal.invariant_of-self
+invariant_of-self c = record { counted = put_counted (turned (goal.at.invariant_of-self c).After-flip) }
+
+pub returns-clause-does : goal.returns-clause-does
+returns-clause-does c = put_does (turned (goal.at.returns-clause-does c).After-flip)

@@ -1,17 +1,16 @@
-use Rattle.std.proofs.Common.{sym}
-use Rattle.grid.proofs.Grids.{wide_keeps, flipped_out}
+use Rattle.std.proofs.Common.{true, arith, rules}
+use Rattle.grid.proofs.Grids.{Turned, take_fits, take_counted, take_does}
 use Rattle.grid.proofs.GridStore.take.Goals as goal
+use Rattle.grid.proofs.GridStore.take.Goals.{After-flip}
 
-pub returns-then-holds : goal.returns-then-holds
-returns-then-holds c =
-    let s = c.args.self.now in
-    let t = c.flip.new.self in
-    let flip = c.flip.ensures in
-    let wide = sym c.if-is_wide.ensures in
-    let taken = flipped_out s.bytes.now t.bytes.now c.args.fact c.in-Some.number s.count t.count
-    c.in-Some.ensures.value wide flip.outside.long flip.bits flip.count c.if-holds.ensures in
-    record {
-      kept = λ h. rw c.saturating_sub-self.ensures (taken h).0;
-      does = λ h. rw c.saturating_sub-self.ensures (taken h).1;
-      outside = wide_keeps s.bytes t.bytes wide flip.outside;
-    }
+turned : (c : After-flip) → Turned c.args.self.now.bytes.now c.flip.new.bytes c.args.fact c.in-Some.number c.args.self.now.count true
+turned c = search rules
+
+pub overflow_sub-count : goal.overflow_sub-count
+overflow_sub-count c = omega (arith, take_fits (turned (goal.at.overflow_sub-count c).After-flip))
+
+pub invariant_of-self : goal.invariant_of-self
+invariant_of-self c = record { counted = take_counted (turned (goal.at.invariant_of-self c).After-flip) }
+
+pub returns-then-holds-clause-does : goal.returns-then-holds-clause-does
+returns-then-holds-clause-does c = take_does (turned (goal.at.returns-then-holds-clause-does c).After-flip)

@@ -1,7 +1,9 @@
+use Rattle.std.proofs.Common.{rules}
+use Rattle.facts.specs.declared.fact.Kind.TheVariants.{OpenCase}
 use Rattle.rules.specs.declared.change.Change.TheVariants.{Add}
 use Rattle.rules.specs.declared.rule.Rule.TheVariants.{TakersApart}
 use Rattle.rules.specs.declared.suspects.Suspects.TheVariants.{One, TakenBy}
-use Rattle.rules.specs.Judging.{Breaks}
+use Rattle.rules.specs.Judging.{Breaks, GainsNone}
 use Rattle.rules.proofs.Enough.{tasks_odds, tasks_taken, tasks_users, tasks_none, all_enough, enough_at}
 use Rattle.rules.proofs.suspects.taker_suspects.Goals as goal
 
@@ -23,9 +25,10 @@ returns-in-Some-added-2 c =
     let f = c.in-Some-added-2.conflict in
     enough_at (Breaks TakersApart) c.args.change (Add f) (TakenBy f.a) at.0 (tasks_users f at.1)
 
-pub returns : goal.returns
-returns c = tasks_none c.args.change c.in_default.ensures c.in_default-added.ensures
-    c.in_default-added-2.ensures c.in_default-added-3.ensures
+pub returns-then-is_some : goal.returns-then-is_some
+returns-then-is_some c = all_enough (Breaks TakersApart) c.args.change
 
-pub returns-in-Some-added-3 : goal.returns-in-Some-added-3
-returns-in-Some-added-3 c = all_enough (Breaks TakersApart) c.args.change
+pub returns : goal.returns
+returns c =
+    let none : GainsNone OpenCase c.args.change = search rules in
+    tasks_none c.args.change c.in_default.ensures c.in_default-added.ensures c.in_default-added-2.ensures none

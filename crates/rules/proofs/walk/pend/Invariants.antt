@@ -1,6 +1,11 @@
-use Rattle.std.proofs.Common.{false, get_or}
-use Rattle.rules.specs.Walks.{Pended}
+use Rattle.std.proofs.Common.{◌≡◌, ℕ, ◌<◌, ◌≤◌, false, get_or, length}
+use Rattle.rules.specs.Walks.{NonZero, mark}
+use Rattle.std.proofs.Common.{cond}
 use Rattle.rules.proofs.walk.pend.Given as goal
 
-abbrev pub invariant-loop-s : goal.invariant-loop-s
-invariant-loop-s l = Pended (λ s. get_or l.roles.members s false) l.s l.initial.sheet l.sheet
+abbrev pub invariant-loop-role : goal.invariant-loop-role
+invariant-loop-role l =
+    ((s : ℕ) → s < 64 → NonZero (mark l.initial.marks s) → mark l.marks s ≡ mark l.initial.marks s)
+    × ((s : ℕ) → s < l.role → mark l.initial.marks s ≡ 0 → mark l.marks s ≡ cond (get_or l.roles.members s false) 2 0)
+    × ((s : ℕ) → l.role ≤ s → mark l.marks s ≡ mark l.initial.marks s)
+    × (length l.marks ≡ length l.initial.marks)
