@@ -1,4 +1,5 @@
-// A small release, kept in any store, with a line for each call.
+// A small release, kept in any store, with a line for each call. What prints is handed the runtime beside the store: a struct of
+// the two would promise nothing of either.
 ghost use Rattle.std.specs.Prelude.{◌≡◌, IfOk};
 ghost use Rattle.cache.specs.Memory.{recalled};
 ghost use Rattle.book_grid.specs.Steps.{Does};

@@ -7,6 +7,7 @@ use facts::store::Store;
 use std::fmt;
 use words::InWords;
 
+// An enum and no closure, since a step is printed too.
 #[derive(Clone, Copy)]
 pub enum Step {
     Put(Fact),

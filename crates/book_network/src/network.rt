@@ -1,4 +1,5 @@
-// The role network of a release: who holds which roles and has which permissions, and which rule a change would break.
+// The role network of a release: who holds which roles and has which permissions, and which rule a change would break. What prints
+// is handed the runtime beside the store: a struct of the two would promise nothing of either.
 ghost use Rattle.std.specs.Prelude.{◌≡◌};
 ghost use Rattle.facts.specs.Facts.{number, fact};
 ghost use Rattle.rules.specs.Asking.{Asks};

@@ -19,6 +19,7 @@ struct Answer {
     there: bool,
 }
 
+// An array and no map: a cache asks for no memory, and forgets rather than grow.
 #[derive(Drop)]
 pub struct Cache<S: Store> {
     below: S,

@@ -34,6 +34,7 @@ pub enum Kind {
     Finished = 12,
 }
 
+// The kind is a plain number too: with a `Kind` there, nobody could hand a store what it has to refuse.
 #[derive(Clone, Copy, PartialEq, Eq, Debug)]
 pub struct Fact {
     pub kind: u8,
@@ -144,6 +145,7 @@ impl Fact {
     }
 
     // The kind, where the four numbers are a fact.
+    #[tactic(auto, using(std::proofs::lemmas::Bool::Decides::nat_tests), unfolding(crate::specs::Facts::is_fact))]
     pub fn kind_of_fact(self) -> Option<Kind>
         ensures kind { result ≡ (if is_fact self then kind_of self.kind else None) }
         ensures told { is_some result ≡ is_fact self }

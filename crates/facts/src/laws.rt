@@ -7,6 +7,7 @@ use crate::refusal::Refusal;
 use crate::store::Store;
 
 // After a put the fact is there exactly when the put was accepted.
+#[tactic(auto, using(std::proofs::lemmas::Bool::Decides::nat_tests, crate::proofs::Sets::same_refl))]
 pub fn put_then_has<S: Store>(store: &mut S, added: Fact) -> (Result<(), Refusal>, bool)
     ensures outside { S.outside store.old store.new }
     ensures told { result.1 ≡ is_ok result.0 }
@@ -19,6 +20,7 @@ pub fn put_then_has<S: Store>(store: &mut S, added: Fact) -> (Result<(), Refusal
 }
 
 // After a take the fact is not there.
+#[tactic(auto, using(std::proofs::lemmas::Bool::Decides::nat_tests, crate::proofs::Sets::same_refl))]
 pub fn take_then_has<S: Store>(store: &mut S, removed: Fact) -> bool
     ensures outside { S.outside store.old store.new }
     ensures told { result ≡ false }
@@ -30,6 +32,7 @@ pub fn take_then_has<S: Store>(store: &mut S, removed: Fact) -> bool
 }
 
 // Two puts of a fact answer and do what one does.
+#[tactic(auto, using(crate::proofs::Sets::put_again))]
 pub fn put_twice<S: Store>(store: &mut S, repeated: Fact) -> Result<(), Refusal>
     ensures outside { S.outside store.old store.new }
     ensures does { Put repeated (S.facts store.old) (S.spare store.old) result
@@ -40,6 +43,7 @@ pub fn put_twice<S: Store>(store: &mut S, repeated: Fact) -> Result<(), Refusal>
 }
 
 // A put and a take of a fact do what the take alone does.
+#[tactic(auto, using(crate::proofs::Sets::put_taken))]
 pub fn put_then_take<S: Store>(store: &mut S, passing: Fact)
     ensures outside { S.outside store.old store.new }
     ensures does { Take passing (S.facts store.old) (S.spare store.old)

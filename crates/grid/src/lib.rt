@@ -19,6 +19,7 @@ const BYTES: usize = 22_148;
 
 const FACTS: usize = 177_184;
 
+// The memory is the caller's, so it is no bit set of the grid's own. The count saves going through the bits for the spare.
 #[derive(Drop)]
 pub struct Grid<'a> {
     bytes: &'a mut [u8],
@@ -26,6 +27,7 @@ pub struct Grid<'a> {
     pub ghost counted: { Counted bytes.now count },
 }
 
+#[tactic(auto, using(std::proofs::lemmas::Nat::Bits::shr_and_one), unfolding(crate::specs::Bits::bit_in))]
 fn is_set(byte: u8, place: usize) -> bool
     requires { place < 8 }
     ensures { result ≡ bit_in byte place }
@@ -33,6 +35,7 @@ fn is_set(byte: u8, place: usize) -> bool
     (byte >> place) & 1 == 1
 }
 
+#[tactic(auto, using(crate::proofs::Flips::turned_bit))]
 fn flipped(byte: u8, place: usize) -> u8
     requires { place < 8 }
     ensures { (k : ℕ)
@@ -136,6 +139,7 @@ impl<'a> Store for Grid<'a> {
         }
     }
 
+    #[tactic(auto, using(crate::proofs::Grids::count_within))]
     fn spare(&self) -> usize {
         if self.is_wide() {
             FACTS - self.count
@@ -144,6 +148,7 @@ impl<'a> Store for Grid<'a> {
         }
     }
 
+    #[tactic(auto, using(crate::proofs::Grids::empty_does))]
     fn empty(&self) -> bool {
         self.count == 0
     }

@@ -26,6 +26,7 @@ fn base(kind: Kind) -> usize
 }
 
 // The number of a fact, or none where the four numbers are no fact.
+#[tactic(auto, using(std::proofs::lemmas::Bool::Decides::nat_tests, facts::proofs::Ranges::some_told, crate::proofs::Onto::number_at, crate::proofs::Onto::numbering))]
 pub fn bit_number(fact: Fact) -> Option<usize>
     ensures value { result ≡ (if is_fact fact then Some (bit_number fact) else None) }
     ensures onto { Numbering 177184 bit_number }

@@ -12,6 +12,7 @@ use facts::fact::Fact;
 use facts::refusal::Refusal;
 use facts::store::Store;
 
+// No `Vec`: the memory is the caller's and fixed, so that a full list is a refusal and not a call for memory.
 #[derive(Drop)]
 pub struct List<'a> {
     places: &'a mut [Fact],
@@ -71,10 +72,12 @@ impl<'a> Store for List<'a> {
         Self::MOST
     }
 
+    #[tactic(auto, using(crate::proofs::Rows::found_told))]
     fn has(&mut self, fact: Fact) -> bool {
         self.find(fact).is_some()
     }
 
+    #[tactic(auto, using(std::proofs::lemmas::Bool::Decides::nat_tests, crate::specs::PlaceLaws::only_facts, crate::proofs::Rows::found_told, crate::proofs::Rows::put_does, crate::proofs::Rows::rest_set))]
     fn put(&mut self, fact: Fact) -> Result<(), Refusal> {
         if !fact.is_fact() {
             return Err(Refusal::NoFact);
@@ -91,6 +94,7 @@ impl<'a> Store for List<'a> {
     }
 
     // The last used place fills the gap.
+    #[tactic(auto, using(crate::proofs::Rows::rest_set))]
     fn take(&mut self, fact: Fact) {
         if let Some(i) = self.find(fact) {
             let last = self.used - 1;

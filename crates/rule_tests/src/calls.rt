@@ -1,4 +1,4 @@
-// The calls with short answers, so that a test compares several at once.
+// The calls with numbers for rules and refusals, so that a test compares several at once.
 use facts::fact::{Fact, Kind};
 use facts::store::Store;
 use rules::change::Change;
@@ -14,22 +14,16 @@ pub(crate) const NO_FACT: Fact = Fact {
     c: 0,
 };
 
-// 'y', 'n', or the number of the refusal.
-pub(crate) fn told(answer: Result<bool, Refusal>) -> char {
-    match answer {
-        Ok(true) => 'y',
-        Ok(false) => 'n',
-        Err(Refusal::OutOfRange) => '1',
-        Err(Refusal::ShortSheet) => '2',
-    }
+// The answer, or the number of the refusal.
+pub(crate) fn told(answer: Result<bool, Refusal>) -> Result<bool, u8> {
+    answer.map_err(u8::from)
 }
 
-// How many roles are in a set, or 100 and the number of the refusal.
-pub(crate) fn size(answer: Result<RoleSet, Refusal>) -> usize {
-    match answer {
-        Ok(roles) => (0..64u32).filter(|role| roles.contains(*role)).count(),
-        Err(refusal) => 100 + usize::from(u8::from(refusal)),
-    }
+// How many roles are in a set, or the number of the refusal.
+pub(crate) fn size(answer: Result<RoleSet, Refusal>) -> Result<usize, u8> {
+    answer
+        .map(|roles| (0..64u32).filter(|role| roles.contains(*role)).count())
+        .map_err(u8::from)
 }
 
 // Puts a fact of two entries; false if it is refused.
@@ -45,27 +39,34 @@ pub(crate) fn chain<S: Store>(store: &mut S, last: u8) {
     add(store, Kind::UserRole, 9, 0);
 }
 
-// The number of the rule that is broken, 0 for none, or 100 and the number of the refusal.
-pub(crate) fn number(verdict: Result<Option<Rule>, Refusal>) -> u8 {
-    match verdict {
-        Ok(None) => 0,
-        Ok(Some(rule)) => rule.into(),
-        Err(refusal) => u8::from(refusal).saturating_add(100),
-    }
+// The number of the rule that a change would break, or of the refusal.
+pub(crate) type Verdict = Result<Option<u8>, u8>;
+
+// Verdicts that a full and a quick judgement share.
+pub(crate) const BREAKS_NONE: (Verdict, Verdict) = (Ok(None), Ok(None));
+
+pub(crate) const OUT_OF_RANGE: (Verdict, Verdict) = (Err(1), Err(1));
+
+pub(crate) fn breaks(rule: u8) -> (Verdict, Verdict) {
+    (Ok(Some(rule)), Ok(Some(rule)))
 }
 
-// What a full and a quick judgement say of a change, as numbers.
-pub(crate) fn verdicts<S: Store>(store: &mut S, change: Change) -> (u8, u8) {
+pub(crate) fn number(verdict: Result<Option<Rule>, Refusal>) -> Verdict {
+    verdict.map(|rule| rule.map(u8::from)).map_err(u8::from)
+}
+
+// What a full and a quick judgement say of a change.
+pub(crate) fn verdicts<S: Store>(store: &mut S, change: Change) -> (Verdict, Verdict) {
     let mut sheet = [7u8; 64];
     let full = number(judge(store, change, &mut sheet));
     let quick = number(judge_quickly(store, change, &mut sheet));
     (full, quick)
 }
 
-pub(crate) fn adding<S: Store>(store: &mut S, kind: Kind, a: u8, b: u8) -> (u8, u8) {
+pub(crate) fn adding<S: Store>(store: &mut S, kind: Kind, a: u8, b: u8) -> (Verdict, Verdict) {
     verdicts(store, Change::Add(Fact::new(kind, a, b, 0)))
 }
 
-pub(crate) fn removing<S: Store>(store: &mut S, kind: Kind, a: u8, b: u8) -> (u8, u8) {
+pub(crate) fn removing<S: Store>(store: &mut S, kind: Kind, a: u8, b: u8) -> (Verdict, Verdict) {
     verdicts(store, Change::Remove(Fact::new(kind, a, b, 0)))
 }

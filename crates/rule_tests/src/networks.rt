@@ -1,6 +1,7 @@
 // Chains, diamonds, ranges, sheets and the texts of refusals.
 use crate::calls::{NO_FACT, add, chain, number, size, told};
 use facts::fact::Kind;
+use facts::store::Store;
 use list::List;
 use rules::change::Change;
 use rules::judge::{judge, judge_quickly};
@@ -11,7 +12,7 @@ use rules::roles::{
 use std::test::Fail;
 
 // Of a chain from role 0 down to `last`, with permission 5 assigned to `last` and user 9 to role 0.
-fn along(last: u8) -> ([char; 8], [usize; 3]) {
+fn along(last: u8) -> ([Result<bool, u8>; 8], [Result<usize, u8>; 3]) {
     let mut places = [NO_FACT; 66];
     let mut store = List::new(&mut places);
     chain(&mut store, last);
@@ -38,13 +39,22 @@ fn along(last: u8) -> ([char; 8], [usize; 3]) {
 
 #[test]
 fn chains_of_length_1_2_and_63(rt: HostRuntime) {
-    let answers = ['y', 'n', 'y', 'y', 'n', 'y', 'y', 'y'];
+    let answers = [
+        Ok(true),
+        Ok(false),
+        Ok(true),
+        Ok(true),
+        Ok(false),
+        Ok(true),
+        Ok(true),
+        Ok(true),
+    ];
     assert_eq!(rt;
         [along(1), along(2), along(63)],
         [
-            (answers, [2, 1, 2]),
-            (answers, [3, 1, 3]),
-            (answers, [64, 1, 64]),
+            (answers, [Ok(2), Ok(1), Ok(2)]),
+            (answers, [Ok(3), Ok(1), Ok(3)]),
+            (answers, [Ok(64), Ok(1), Ok(64)]),
         ]
     );
 }
@@ -71,7 +81,16 @@ fn diamond(rt: HostRuntime) {
             told(carries(&mut store, 3, 6, &mut sheet)),
             told(has_permission(&mut store, 4, 6, &mut sheet)),
         ],
-        ['y', 'n', 'y', 'y', 'n', 'y', 'n', 'n']
+        [
+            Ok(true),
+            Ok(false),
+            Ok(true),
+            Ok(true),
+            Ok(false),
+            Ok(true),
+            Ok(false),
+            Ok(false),
+        ]
     );
     assert_eq!(rt;
         [
@@ -79,8 +98,30 @@ fn diamond(rt: HostRuntime) {
             size(roles_held(&mut store, 4, &mut sheet)),
             size(roles_held(&mut store, 5, &mut sheet)),
         ],
-        [4, 2, 0]
+        [Ok(4), Ok(2), Ok(0)]
     );
+}
+
+// What three calls answer at the end of their two ranges, and one past each.
+fn at_ends<S: Store>(store: &mut S) -> [[Result<bool, u8>; 3]; 3] {
+    let mut sheet = [7u8; 64];
+    [
+        [
+            told(reaches(store, 63, 62, &mut sheet)),
+            told(reaches(store, 64, 63, &mut sheet)),
+            told(reaches(store, 63, 64, &mut sheet)),
+        ],
+        [
+            told(lies_above(store, 63, 63, &mut sheet)),
+            told(lies_above(store, 64, 63, &mut sheet)),
+            told(lies_above(store, 63, 64, &mut sheet)),
+        ],
+        [
+            told(holds(store, 127, 63, &mut sheet)),
+            told(holds(store, 128, 63, &mut sheet)),
+            told(holds(store, 127, 64, &mut sheet)),
+        ],
+    ]
 }
 
 // Each call at the end of its ranges, and one past it.
@@ -89,20 +130,7 @@ fn ranges(rt: HostRuntime) {
     let mut places = [NO_FACT; 1];
     let mut store = List::new(&mut places);
     let mut sheet = [7u8; 64];
-    assert_eq!(rt;
-        [
-            told(reaches(&mut store, 63, 62, &mut sheet)),
-            told(reaches(&mut store, 64, 63, &mut sheet)),
-            told(reaches(&mut store, 63, 64, &mut sheet)),
-            told(lies_above(&mut store, 63, 63, &mut sheet)),
-            told(lies_above(&mut store, 64, 63, &mut sheet)),
-            told(lies_above(&mut store, 63, 64, &mut sheet)),
-            told(holds(&mut store, 127, 63, &mut sheet)),
-            told(holds(&mut store, 128, 63, &mut sheet)),
-            told(holds(&mut store, 127, 64, &mut sheet)),
-        ],
-        ['n', '1', '1', 'n', '1', '1', 'n', '1', '1']
-    );
+    assert_eq!(rt; at_ends(&mut store), [[Ok(false), Err(1), Err(1)]; 3]);
     assert_eq!(rt;
         [
             told(carries(&mut store, 63, 63, &mut sheet)),
@@ -113,7 +141,7 @@ fn ranges(rt: HostRuntime) {
             told(has_permission(&mut store, 127, 64, &mut sheet)),
             told(has_permission(&mut store, u32::MAX, 0, &mut sheet)),
         ],
-        ['n', '1', '1', 'n', '1', '1', '1']
+        [Ok(false), Err(1), Err(1), Ok(false), Err(1), Err(1), Err(1)]
     );
     assert_eq!(rt;
         [
@@ -122,7 +150,7 @@ fn ranges(rt: HostRuntime) {
             size(roles_held(&mut store, 127, &mut sheet)),
             size(roles_held(&mut store, 128, &mut sheet)),
         ],
-        [1, 101, 0, 101]
+        [Ok(1), Err(1), Ok(0), Err(1)]
     );
 }
 
@@ -145,10 +173,10 @@ fn sheets(rt: HostRuntime) {
             told(holds(&mut store, 128, 3, &mut short)),
             told(holds(&mut store, 128, 3, &mut long)),
         ],
-        ['2', '1', '1']
+        [Err(2), Err(1), Err(1)]
     );
     assert_eq!(rt; (short, long), ([7; 63], [7; 66]));
-    assert_eq!(rt; told(holds(&mut store, 9, 3, &mut long)), 'y');
+    assert_eq!(rt; told(holds(&mut store, 9, 3, &mut long)), Ok(true));
     assert_eq!(rt; used_well(&long), true);
 }
 
@@ -173,7 +201,10 @@ fn short_sheets(rt: HostRuntime) {
         number(judge(&mut store, Change::Nothing, &mut short)),
         number(judge_quickly(&mut store, Change::Nothing, &mut short)),
     ];
-    assert_eq!(rt; (answers, sizes, verdicts), (['2'; 5], [102; 2], [102; 2]));
+    assert_eq!(rt;
+        (answers, sizes, verdicts),
+        ([Err(2); 5], [Err(2); 2], [Err(2); 2])
+    );
     assert_eq!(rt; short, [7; 63]);
 }
 

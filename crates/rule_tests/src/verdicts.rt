@@ -1,5 +1,7 @@
 // Which rule a change would break, by a full and by a quick judgement.
-use crate::calls::{NO_FACT, add, adding, chain, removing, verdicts};
+use crate::calls::{
+    BREAKS_NONE, NO_FACT, OUT_OF_RANGE, add, adding, breaks, chain, removing, verdicts,
+};
 use facts::fact::{Fact, Kind};
 use facts::store::Store;
 use list::List;
@@ -52,14 +54,14 @@ fn a_release_step_by_step(rt: HostRuntime) {
     assert_eq!(rt;
         [cycle, permissions, loosened, both, own, party, tasks, none],
         [
-            (1, 1),
-            (4, 4),
-            (4, 4),
-            (2, 2),
-            (3, 3),
-            (3, 3),
-            (5, 5),
-            (0, 0)
+            breaks(1),
+            breaks(4),
+            breaks(4),
+            breaks(2),
+            breaks(3),
+            breaks(3),
+            breaks(5),
+            BREAKS_NONE,
         ]
     );
 }
@@ -94,19 +96,19 @@ fn takers_in_open_cases(rt: HostRuntime) {
         adding(&mut store, Kind::AtOdds, 5, 6),
         adding(&mut store, Kind::UserConflict, 21, 22),
     ];
-    assert_eq!(rt; closed, [(0, 0), (0, 0), (0, 0)]);
+    assert_eq!(rt; closed, [BREAKS_NONE; 3]);
     assert_eq!(rt;
         open,
         [
-            (6, 6),
-            (0, 0),
-            (6, 6),
-            (6, 6),
-            (6, 6),
-            (0, 0),
-            (0, 0),
-            (0, 0),
-            (0, 0),
+            breaks(6),
+            BREAKS_NONE,
+            breaks(6),
+            breaks(6),
+            breaks(6),
+            BREAKS_NONE,
+            BREAKS_NONE,
+            BREAKS_NONE,
+            BREAKS_NONE,
         ]
     );
 }
@@ -133,14 +135,14 @@ fn conflicts_in_both_orders(rt: HostRuntime) {
             adding(&mut store, Kind::UserRole, 30, 1),
         ],
         [
-            (2, 2),
-            (2, 2),
-            (2, 2),
-            (2, 2),
-            (3, 3),
-            (3, 3),
-            (3, 3),
-            (3, 3),
+            breaks(2),
+            breaks(2),
+            breaks(2),
+            breaks(2),
+            breaks(3),
+            breaks(3),
+            breaks(3),
+            breaks(3),
         ]
     );
     assert_eq!(rt;
@@ -151,7 +153,7 @@ fn conflicts_in_both_orders(rt: HostRuntime) {
             adding(&mut store, Kind::RoleConflict, 8, 2),
             adding(&mut store, Kind::RoleConflict, 1, 8),
         ],
-        [(3, 3), (0, 0), (2, 2), (0, 0), (0, 0)]
+        [breaks(3), BREAKS_NONE, breaks(2), BREAKS_NONE, BREAKS_NONE]
     );
 }
 
@@ -170,7 +172,7 @@ fn parties_are_not_transitive(rt: HostRuntime) {
             adding(&mut store, Kind::UserRole, 41, 3),
             adding(&mut store, Kind::UserConflict, 40, 42),
         ],
-        [(0, 0), (3, 3), (0, 0)]
+        [BREAKS_NONE, breaks(3), BREAKS_NONE]
     );
 }
 
@@ -186,7 +188,7 @@ fn one_role_with_both_permissions(rt: HostRuntime) {
             adding(&mut store, Kind::PermissionRole, 11, 6),
             adding(&mut store, Kind::PermissionConflict, 10, 10),
         ],
-        [(4, 4), (4, 4)]
+        [breaks(4), breaks(4)]
     );
 }
 
@@ -212,17 +214,17 @@ fn cycles_and_no_facts(rt: HostRuntime) {
     assert_eq!(rt;
         closing,
         [
-            (1, 1),
-            (1, 1),
-            (1, 1),
-            (0, 0),
-            (101, 101),
-            (101, 101),
-            (101, 101),
-            (101, 101),
+            breaks(1),
+            breaks(1),
+            breaks(1),
+            BREAKS_NONE,
+            OUT_OF_RANGE,
+            OUT_OF_RANGE,
+            OUT_OF_RANGE,
+            OUT_OF_RANGE,
         ]
     );
-    assert_eq!(rt; [broken, mended], [1, 0]);
+    assert_eq!(rt; [broken, mended], [Ok(Some(1)), Ok(None)]);
 }
 
 // A full store judges too: the change is not put.
@@ -237,7 +239,7 @@ fn full_stores_judge(rt: HostRuntime) {
             adding(&mut store, Kind::UserRole, 30, 3),
             adding(&mut store, Kind::UserRole, 31, 3),
         ],
-        [(3, 3), (0, 0)]
+        [breaks(3), BREAKS_NONE]
     );
     assert_eq!(rt;
         (store.spare(), add(&mut store, Kind::UserRole, 31, 3)),

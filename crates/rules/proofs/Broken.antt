@@ -14,11 +14,10 @@ use Rattle.rules.specs.Asking.{Among, Exactly}
 use Rattle.rules.specs.Roles.{pair, Link, same, down, Reaches, Assigned, Holds, Conflict, Party}
 use Rattle.rules.specs.Tasks.{Open, AtOdds, HasTaken}
 use Rattle.rules.specs.Rules.{Apart, Keeps}
-use Rattle.rules.specs.Judging.{Meet, Paired, Mixed, HoldBoth, Breaks, subjects}
-use Rattle.rules.proofs.Decided.{decides_as}
+use Rattle.rules.specs.Judging.{Meet, Paired, Mixed, Breaks, subjects}
 use Rattle.rules.proofs.Marks.{closed_under, linked_far}
 use Rattle.rules.specs.Walks.{From}
-use Rattle.rules.proofs.Reach.{from_role, role_from}
+use Rattle.rules.proofs.Reach.{decides_as, from_role}
 use Rattle.rules.proofs.Ranged.{ranged_in, ranged_pair}
 
 -- items are apart where none is mixed with another
@@ -28,16 +27,13 @@ apart_from k c m n x y r s e p q = elim (cases_in m (pair RoleConflict r s)) [
   | inr absent ↦ absurd (n x (y, r, s, e, p, q, absent))
 ]
 
--- roles that meet, said of other sets of roles
-pub meet_to : (P P' Q Q' : ℕ → Type 0) (b : Bool) (m : Facts) → ((r : ℕ) → r < 64 → P r → P' r) → ((r : ℕ) → r < 64 → Q r → Q' r)
-    → Meet P Q b m → Meet P' Q' b m
-meet_to P P' Q Q' b m p q h = (h.0, h.1, h.2, h.3, p h.0 h.2 h.4, q h.1 h.3 h.5, h.6)
-
-pub decides_meet : (x y : RoleSet) (P Q : ℕ → Type 0) (b r : Bool) (m : Facts) → Exactly x P → Exactly y Q
-    → Decides r (Meet (Among x) (Among y) b m) → Decides r (Meet P Q b m)
-decides_meet x y P Q b r m e f = decides_as r _ _
-    (meet_to (Among x) P (Among y) Q b m (λ s _. e.only s) (λ s _. f.only s))
-    (meet_to P (Among x) Q (Among y) b m (λ s l. e.all s l) (λ s l. f.all s l))
+-- a user who conflicts with another, and holds a role that conflicts with one of a set
+pub decides_rival : (u n : ℕ) (b : Bool) (own x : RoleSet) (m : Facts) → Conflict UserConflict m u n → Exactly x (Holds m n)
+    → Decides b (Meet (Among own) (Among x) true m)
+    → Decides b (Conflict UserConflict m u n × Meet (Among own) (Holds m n) true m)
+decides_rival u n b own x m c e = decides_as b _ _
+    (λ h. (c, (h.0, h.1, h.2, h.3, h.4, e.only h.1 h.5, h.6)))
+    (λ q. let h = q.1 in (h.0, h.1, h.2, h.3, h.4, e.all h.1 h.3 h.5, h.6))
 
 module _ (m : Facts) (o : Only m) where
   -- what is reached and what is held are roles
@@ -53,34 +49,19 @@ module _ (m : Facts) (o : Only m) where
       let r = ranged_in m o k (min x y) (max x y) 0 e in
       (omega (arith, r.0, r.1, p.0, p.1), omega (arith, r.0, r.1, p.0, p.1))
 
-  pub decides_hold_both : (u v : ℕ) (r : Bool) → Decides r (Meet (Holds m u) (Holds m v) true m) → Decides r (HoldBoth m u v)
-  decides_hold_both u v r = decides_as r _ _
-      (λ h. (h.0, h.1, h.6, h.4, h.5))
-      (λ h. (h.0, h.1, held_role u h.0 h.3, held_role v h.1 h.4, h.3, h.4, h.2))
-
-  -- a user alone, or with another in conflict
-  pub alone : (u : ℕ) → HoldBoth m u u → Breaks PartiesApart m u
-  alone u h = (u, inl refl, h)
-
-  pub decides_party : (u : ℕ) (r : Bool) (x : RoleSet) → Exactly x (Holds m u) → ¬ (HoldBoth m u u)
+  pub decides_party : (u : ℕ) (r : Bool) (x : RoleSet) → Exactly x (Holds m u) → ¬ (Meet (Among x) (Among x) true m)
       → Decides r ((v : ℕ) × (v < 128) × (Conflict UserConflict m u v × Meet (Among x) (Holds m v) true m))
       → Decides r (Breaks PartiesApart m u)
-  decides_party u r x e n = decides_as r _ _ to from
-    where
-      to : ((v : ℕ) × (v < 128) × (Conflict UserConflict m u v × Meet (Among x) (Holds m v) true m)) → Breaks PartiesApart m u
-      to h = let w = h.2.1 in (h.0, inr h.2.0, (w.0, w.1, w.6, e.only w.0 w.4, w.5))
-
-      from : Breaks PartiesApart m u → (v : ℕ) × (v < 128) × (Conflict UserConflict m u v × Meet (Among x) (Holds m v) true m)
-      from h = elim h.1 [
-        | inl q ↦ absurd (n (subst (λ (v : ℕ). HoldBoth m u v) (sym q) h.2))
-        | inr q ↦
-            let w = h.2 in
-            let l = held_role u w.0 w.3 in (
-              h.0,
-              (paired UserConflict 128 u h.0 (omega arith, omega arith) q).1,
-              (q, (w.0, w.1, l, held_role h.0 w.1 w.4, e.all w.0 l w.3, w.4, w.2)),
-            )
-      ]
+  decides_party u r x e n = decides_as r _ _
+      (λ h. let w = h.2.1 in (h.0, inr h.2.0, (w.0, w.1, w.6, e.only w.0 w.4, w.5)))
+      (λ h.
+      let w = h.2 in
+      let s = held_role u w.0 w.3 in
+      let t = held_role h.0 w.1 w.4 in
+      elim h.1 [
+        | inl q ↦ absurd (n (w.0, w.1, s, t, e.all w.0 s w.3, e.all w.1 t (subst (λ (v : ℕ). Holds m v w.1) (sym q) w.4), w.2))
+        | inr q ↦ (h.0, (paired UserConflict 128 u h.0 (omega arith, omega arith) q).1, (q, (w.0, w.1, s, t, e.all w.0 s w.3, w.4, w.2)))
+      ])
 
   pub decides_mixed : (k c : Kind) (x end : ℕ) (b : Bool) (own : RoleSet) → size (entries k).1 ≤ 64 → Paired c end
       → Exactly own (Assigned k m x)
@@ -116,7 +97,7 @@ module _ (m : Facts) (o : Only m) where
       (h.0, y.1, (h.5, (h.1, x.0, (h.4, (h.2, x.2, (h.7, (h.3, y.2, (h.8, h.6)))))))))
 
   -- what reaches a role is a role
-  pub reaching_role : (r s : ℕ) → s < 64 → Reaches m r s → r < 64
+  reaching_role : (r s : ℕ) → s < 64 → Reaches m r s → r < 64
   reaching_role r s l same = l
   reaching_role r s l (down {t = t} e p) = (ranged_pair m o Senior r t e).0
 
@@ -130,15 +111,15 @@ module _ (m : Facts) (o : Only m) where
   breaking TasksApart x b = (ranged_pair m o TaskRole x b.1 b.4).0
   breaking TakersApart x b = (ranged_in m o Taken b.1 x b.2 b.7).1
 
-  pub decides_reached : (r : ℕ) (b : Bool)
-      → Decides b (Meet (From (Link m) (λ x. x ≡ r)) (From (Link m) (λ x. x ≡ r)) true m) → Decides b (Breaks RolesApart m r)
-  decides_reached r b = decides_as b _ _
-      (λ h. (h.0, h.1, h.6, from_role m r h.0 h.4, from_role m r h.1 h.5))
+  pub decides_reached : (r : ℕ) (b : Bool) (x : RoleSet) → Exactly x (From (Link m) (λ s. s ≡ r))
+      → Decides b (Meet (Among x) (Among x) true m) → Decides b (Breaks RolesApart m r)
+  decides_reached r b x e = decides_as b _ _
+      (λ h. (h.0, h.1, h.6, from_role m r h.0 (e.only h.0 h.4), from_role m r h.1 (e.only h.1 h.5)))
       (λ h.
       let l = breaking RolesApart r h in
       let s = reached_role r h.0 l h.3 in
       let t = reached_role r h.1 l h.4 in
-      (h.0, h.1, s, t, role_from m r h.0 l h.3, role_from m r h.1 l h.4, h.2))
+      (h.0, h.1, s, t, e.all h.0 s (r, l, refl, h.3), e.all h.1 t (r, l, refl, h.4), h.2))
 
 -- the rules by what breaks them
 pub keeps_from : (ρ : Rule) (m : Facts) → ((x : ℕ) → ¬ (Breaks ρ m x)) → Keeps ρ m

@@ -1,4 +1,4 @@
-use Rattle.std.proofs.Common.{ℕ, List, length, refl, ap, ◌∙◌, subst, inl, inr, MutBor}
+use Rattle.std.proofs.Common.{ℕ, List, length, refl, ap, ◌∙◌, subst, arith, MutBor}
 use Rattle.facts.specs.declared.store.Store.{Ghosts}
 use Rattle.rules.specs.declared.inquiry.Inquiry.{Inquiry}
 use Rattle.rules.specs.Asking.{Asks}
@@ -16,19 +16,7 @@ asks_on st {s} {t} {u} p q = record {
 }
 
 used_on : (a b c : List ℕ) → Used a b → Used b c → Used a c
-used_on a b c p q s l = elim (q s l) [
-  | inl e ↦ inl e
-  | inr w ↦ elim w [
-    | inl e ↦ inr (inl e)
-    | inr e ↦ elim (p s l) [
-      | inl f ↦ inl (e ∙ f)
-      | inr v ↦ elim v [ inl f ↦ inr (inl (e ∙ f)) | inr f ↦ inr (inr (e ∙ f)) ]
-    ]
-  ]
-]
-
-pub looks_none : {S : Type 0} {st : Ghosts S} (i : Inquiry S st) → Looks i i
-looks_none {st = st} i = record { asks = asks_none st i.store.now; same = refl; lent = refl; marks = refl }
+used_on a b c p q s l = grind (arith, p s l, q s l)
 
 pub looks_on : {S : Type 0} {st : Ghosts S} {i j k : Inquiry S st} → Looks i j → Looks j k → Looks i k
 looks_on {st = st} p q = record {
@@ -36,16 +24,6 @@ looks_on {st = st} p q = record {
   same = q.same ∙ p.same;
   lent = q.lent ∙ p.lent;
   marks = q.marks ∙ p.marks;
-}
-
-pub walks_none : {S : Type 0} {st : Ghosts S} (i : Inquiry S st) → Walks i i
-walks_none {st = st} i = record {
-  asks = asks_none st i.store.now;
-  same = refl;
-  lent = refl;
-  sheet = refl;
-  long = refl;
-  used = λ s l. inr (inr refl);
 }
 
 pub walks_on : {S : Type 0} {st : Ghosts S} {i j k : Inquiry S st} → Walks i j → Walks j k → Walks i k

@@ -1,12 +1,8 @@
 pub mod Broken
-pub mod Closed
-pub mod Decided
-pub mod Enough
 pub mod Frame
 pub mod Gains
 pub mod Located
 pub mod Marks
-pub mod Order
 pub mod Ranged
 pub mod Reach
 pub mod Scopes

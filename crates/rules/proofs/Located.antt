@@ -1,26 +1,22 @@
-use Rattle.std.proofs.Common.{◌≡◌, ℕ, min, max, ◌⊎◌, sym, ap, ◌∙◌, inl, inr, ⊎_elim, arith}
+use Rattle.std.proofs.Common.{ℕ, min, ◌⊎◌, sym, subst, inl, inr, ⊎_elim, arith}
+use Rattle.std.proofs.lemmas.Bool.{cases_lt}
 use Rattle.facts.specs.declared.fact.Kind.{Kind}
-use Rattle.facts.specs.declared.fact.Kind.TheVariants.{UserRole, UserConflict, RoleConflict}
+use Rattle.facts.specs.declared.fact.Kind.TheVariants.{UserRole, Senior, UserConflict, RoleConflict, OpenCase, Taken}
 use Rattle.facts.specs.declared.fact.Kind.TheVariants.{AtOdds as odds-kind}
-use Rattle.facts.specs.Facts.{Facts, number, fact}
+use Rattle.facts.specs.Facts.{Facts}
 use Rattle.facts.proofs.Sets.{cases_in}
-use Rattle.rules.specs.declared.rule.Rule.TheVariants.{RolesApart, PartiesApart, TakersApart}
-use Rattle.rules.specs.Roles.{pair, Link, same, down, Reaches, Above, Assigned, Holds, Conflict, Party}
-use Rattle.rules.specs.Tasks.{Open, AtOdds, HasTaken}
+use Rattle.rules.specs.declared.rule.Rule.TheVariants.{NoCycle, RolesApart, PartiesApart, TakersApart}
+use Rattle.rules.specs.Roles.{pair, same, down, Reaches, Above, Assigned, Holds, Conflict, Party}
+use Rattle.rules.specs.Tasks.{Open, HasTaken}
 use Rattle.rules.specs.Judging.{Mixed, Breaks}
+use Rattle.rules.proofs.Gains.{Gains}
 use Rattle.rules.proofs.Marks.{chain_on}
 
 -- a pair may be named in either order
-pub pair_swap : (k : Kind) (x y : ℕ) → pair k x y ≡ pair k y x
-pair_swap k x y =
-    let a : min x y ≡ min y x = omega arith in
-    let b : max x y ≡ max y x = omega arith in
-    λ i. fact (number k) (a i) (b i) 0
+conflict_swap : (k : Kind) (m : Facts) (x y : ℕ) → Conflict k m x y → Conflict k m y x
+conflict_swap k m x y e = grind (arith, e)
 
-pub conflict_swap : (k : Kind) (m : Facts) (x y : ℕ) → Conflict k m x y → Conflict k m y x
-conflict_swap k m x y e = ap m (pair_swap k y x) ∙ e
-
-pub party_swap : (m : Facts) (u v : ℕ) → Party m u v → Party m v u
+party_swap : (m : Facts) (u v : ℕ) → Party m u v → Party m v u
 party_swap m u v (inl e) = inl (sym e)
 party_swap m u v (inr e) = inr (conflict_swap UserConflict m u v e)
 
@@ -31,154 +27,92 @@ party_turned m u b =
     (u, party_swap m u b.0 b.1, (w.1, w.0, conflict_swap RoleConflict m w.0 w.1 w.2, w.4, w.3))
 
 mixed_turned : (k c : Kind) (m : Facts) (x : ℕ) (b : Mixed k c m x) → Mixed k c m b.0
-mixed_turned k c m x b = (
-  x,
-  b.2,
-  b.1,
-  conflict_swap c m x b.0 b.3,
-  b.5,
-  b.4,
-  λ e. b.6 (conflict_swap RoleConflict m b.2 b.1 e),
-)
-
-odds_swap : (m : Facts) (t q : ℕ) → AtOdds m t q → AtOdds m q t
-odds_swap m t q e = ap m (pair_swap odds-kind q t) ∙ e
+mixed_turned k c m x b =
+    (x, b.2, b.1, conflict_swap c m x b.0 b.3, b.5, b.4, λ e. b.6 (conflict_swap RoleConflict m b.2 b.1 e))
 
 took_turned : (m : Facts) (t : ℕ) (b : Breaks TakersApart m t) → Breaks TakersApart m b.0
 took_turned m t b =
-    (t, b.1, b.3, b.2, b.4, odds_swap m t b.0 b.5, party_swap m b.2 b.3 b.6, b.8, b.7)
+    (t, b.1, b.3, b.2, b.4, conflict_swap odds-kind m t b.0 b.5, party_swap m b.2 b.3 b.6, b.8, b.7)
 
--- Links that are new start at a role of Z.
-module _ (m m' : Facts) (Z : ℕ → Type 0) (links : (r s : ℕ) → Link m' r s → Link m r s ⊎ Z r) where
-  -- a chain is an old one, or comes by a role of Z
-  pub split : {r s : ℕ} → Reaches m' r s → Reaches m r s ⊎ ((z : ℕ) × Z z × Reaches m' r z × Above m' z s)
-  split same = inl same
-  split {r} {s} (down {t = t} e p) = elim (links r t e) [
-    | inr z ↦ inr (r, z, same, (t, e, p))
-    | inl old ↦ elim (split p) [ inl q ↦ inl (down old q) | inr q ↦ inr (q.0, q.1, down e q.2, q.3) ]
-  ]
+-- what breaks a rule, by B, in m' does so at a place of P, or something broke it in m
+abbrev pub Located : (ℕ → Type 0) → (Facts → ℕ → Type 0) → Facts → Facts → Type 0
+Located P B m m' = ((y : ℕ) × P y × B m' y) ⊎ ((y : ℕ) × B m y)
 
-  pub cycle_located : (x : ℕ) → Above m' x x → ((z : ℕ) × Z z × Above m' z z) ⊎ Above m x x
-  cycle_located x b = elim (links x b.0 b.1) [
-    | inr z ↦ inl (x, z, b)
-    | inl old ↦ elim (split b.2) [
-      | inl q ↦ inr (b.0, old, q)
-      | inr q ↦ let w = q.3 in inl (q.0, q.1, (w.0, w.1, chain_on w.2 (down b.1 q.2)))
-    ]
-  ]
+-- what is new leads to a place of P, and what is old is gone on from
+old : {A B C : Type 0} → A ⊎ B → (B → C) → (A → C) → C
+old (inl a) f g = g a
+old (inr b) f g = f b
 
-  module _ (conflicts : (s t : ℕ) → Conflict RoleConflict m' s t → Conflict RoleConflict m s t ⊎ (Z s ⊎ Z t)) where
-    pub roles-located : (r : ℕ) → Breaks RolesApart m' r → ((z : ℕ) × Z z × Reaches m' r z) ⊎ Breaks RolesApart m r
-    roles-located r b = elim (conflicts b.0 b.1 b.2) [
-      | inr z ↦ inl (⊎_elim (λ y. (b.0, y, b.3)) (λ y. (b.1, y, b.4)) z)
-      | inl old ↦ elim (split b.3) [
-        | inr q ↦ inl (q.0, q.1, q.2)
-        | inl p ↦ elim (split b.4) [ inr q ↦ inl (q.0, q.1, q.2) | inl q ↦ inr (b.0, b.1, old, p, q) ]
-      ]
-    ]
+either : (P : ℕ → Type 0) (x y : ℕ) → P (min x y) → P x ⊎ P y
+either P x y p = ⊎_elim (λ l. inl (subst P (omega arith) p)) (λ l. inr (subst P (omega arith) p)) (cases_lt x y)
 
-    -- assignments and conflicts of users that are new name a user of W
-    module _ (W : ℕ → Type 0) (assigned : (u r : ℕ) → Assigned UserRole m' u r → Assigned UserRole m u r ⊎ W u)
-        (users : (u v : ℕ) → Conflict UserConflict m' u v → Conflict UserConflict m u v ⊎ (W u ⊎ W v)) where
-      abbrev pub Special : ℕ → Type 0
-      Special u = W u ⊎ ((z : ℕ) × Z z × Holds m' u z)
+pairwise : {k : Kind} {m m' : Facts} {P : ℕ → Type 0} → Gains k m m' (λ x y. P x) → (x y : ℕ)
+    → Conflict k m' x y → Conflict k m x y ⊎ (P x ⊎ P y)
+pairwise {P = P} g x y e = old (g.parts _ _ 0 e) (λ p. inr (either P x y p)) inl
 
-      held : (u s : ℕ) → Holds m' u s → Holds m u s ⊎ Special u
-      held u s h = elim (assigned u h.0 h.1) [
-        | inr w ↦ inr (inl w)
-        | inl old ↦ elim (split h.2) [
-          | inl q ↦ inl (h.0, old, q)
-          | inr q ↦ inr (inr (q.0, q.1, (h.0, h.1, q.2)))
-        ]
-      ]
+module _ {m m' : Facts} where
+  party : {P : ℕ → Type 0} → Gains UserConflict m m' (λ x y. P x) → (u v : ℕ) → Party m' u v → Party m u v ⊎ (P u ⊎ P v)
+  party g u v (inl e) = inl (inl e)
+  party g u v (inr e) = old (pairwise g u v e) inr (λ o. inl (inr o))
 
-      abbrev pub PartyLocated : ℕ → Type 0
-      PartyLocated u = ((v : ℕ) × Special v × Breaks PartiesApart m' v) ⊎ ((v : ℕ) × Breaks PartiesApart m v)
+  -- a chain is an old one, or comes by a role at which a new link starts
+  split : {Z : ℕ → Type 0} → Gains Senior m m' (λ x y. Z x) → {r s : ℕ}
+      → Reaches m' r s → Reaches m r s ⊎ ((z : ℕ) × Z z × Reaches m' r z × Above m' z s)
+  split g same = inl same
+  split g {r} {s} (down {t = t} e p) = old (g.parts r t 0 e) (λ z. inr (r, z, same, (t, e, p)))
+      (λ o. old (split g p) (λ q. inr (q.0, q.1, down e q.2, q.3)) (λ q. inl (down o q)))
 
-      party : (u v : ℕ) → Party m' u v → Party m u v ⊎ (W u ⊎ W v)
-      party u v (inl e) = inl (inl e)
-      party u v (inr e) = elim (users u v e) [ inl old ↦ inl (inr old) | inr w ↦ inr w ]
+  module _ {P : ℕ → Type 0} where
+    pub cycle_located : {x : ℕ} → Gains Senior m m' (λ r s. P r) → Above m' x x → Located P (Breaks NoCycle) m m'
+    cycle_located {x} links b = old (links.parts x b.0 0 b.1) (λ z. inl (x, z, b))
+        (λ e. old (split links b.2)
+        (λ q. let w = q.3 in inl (q.0, q.1, (w.0, w.1, chain_on w.2 (down b.1 q.2))))
+        (λ p. inr (x, (b.0, e, p))))
 
-      pub party-located : (u : ℕ) → Breaks PartiesApart m' u → PartyLocated u
-      party-located u b =
-          let w = b.2 in
-          let here : Special u → PartyLocated u = λ s. inl (u, s, b) in
-          let there : Special b.0 → PartyLocated u = λ s. inl (b.0, s, party_turned m' u b) in
-          elim (party u b.0 b.1) [
-            | inr z ↦ ⊎_elim (λ y. here (inl y)) (λ y. there (inl y)) z
-            | inl together ↦ elim (conflicts w.0 w.1 w.2) [
-              | inr z ↦ ⊎_elim (λ y. here (inr (w.0, y, w.3))) (λ y. there (inr (w.1, y, w.4))) z
-              | inl old ↦ elim (held u w.0 w.3) [
-                | inr s ↦ here s
-                | inl p ↦ elim (held b.0 w.1 w.4) [
-                  | inr s ↦ there s
-                  | inl q ↦ inr (u, (b.0, together, (w.0, w.1, old, p, q)))
-                ]
-              ]
-            ]
-          ]
+    pub roles_located : {x : ℕ} → Gains Senior m m' (λ r s. Reaches m' x r → P x)
+        → Gains RoleConflict m m' (λ r s. Reaches m' x r → P x) → Breaks RolesApart m' x → Located P (Breaks RolesApart) m m'
+    roles_located {x} links conflicts b =
+        let here : P x → Located P (Breaks RolesApart) m m' = λ p. inl (x, p, b) in
+        old (pairwise conflicts b.0 b.1 b.2) (⊎_elim (λ f. here (f b.3)) (λ f. here (f b.4)))
+        (λ e. old (split links b.3) (λ q. here (q.1 q.2))
+        (λ p. old (split links b.4) (λ q. here (q.1 q.2)) (λ q. inr (x, (b.0, b.1, e, p, q)))))
 
--- Assignments and conflicts of items that are new name an item of W, and conflicts of roles that are gone a role of Z.
-module _ (k c : Kind) (m m' : Facts) (W Z : ℕ → Type 0)
-    (assigned : (x r : ℕ) → Assigned k m' x r → Assigned k m x r ⊎ W x)
-    (conflicts : (x y : ℕ) → Conflict c m' x y → Conflict c m x y ⊎ (W x ⊎ W y))
-    (gone : (r s : ℕ) → Conflict RoleConflict m r s → Conflict RoleConflict m' r s ⊎ (Z r ⊎ Z s)) where
-  abbrev pub SpecialItem : ℕ → Type 0
-  SpecialItem x = W x ⊎ ((z : ℕ) × Z z × Assigned k m' x z)
+    held : Gains UserRole m m' (λ u r. P u) → Gains Senior m m' (λ r s. (u : ℕ) → Holds m' u r → P u) → (u s : ℕ)
+        → Holds m' u s → Holds m u s ⊎ P u
+    held assigned links u s h = old (assigned.parts u h.0 0 h.1) inr
+        (λ e. old (split links h.2) (λ q. inr (q.1 u (h.0, h.1, q.2))) (λ p. inl (h.0, e, p)))
 
-  abbrev pub ItemLocated : Type 0
-  ItemLocated = ((y : ℕ) × SpecialItem y × Mixed k c m' y) ⊎ ((y : ℕ) × Mixed k c m y)
+    pub party_located : {u : ℕ} → Gains UserRole m m' (λ x y. P x) → Gains UserConflict m m' (λ x y. P x)
+        → Gains Senior m m' (λ r s. (v : ℕ) → Holds m' v r → P v) → Gains RoleConflict m m' (λ r s. (v : ℕ) → Holds m' v r → P v)
+        → Breaks PartiesApart m' u → Located P (Breaks PartiesApart) m m'
+    party_located {u} assigned users links conflicts b =
+        let w = b.2 in
+        let here : P u → Located P (Breaks PartiesApart) m m' = λ p. inl (u, p, b) in
+        let there : P b.0 → Located P (Breaks PartiesApart) m m' = λ p. inl (b.0, p, party_turned m' u b) in
+        old (party users u b.0 b.1) (⊎_elim here there)
+        (λ t. old (pairwise conflicts w.0 w.1 w.2) (⊎_elim (λ f. here (f u w.3)) (λ f. there (f b.0 w.4)))
+        (λ e. old (held assigned links u w.0 w.3) here
+        (λ p. old (held assigned links b.0 w.1 w.4) there (λ q. inr (u, (b.0, t, (w.0, w.1, e, p, q)))))))
 
-  pub item_located : (x : ℕ) → Mixed k c m' x → ItemLocated
-  item_located x b =
-      let here : SpecialItem x → ItemLocated = λ s. inl (x, s, b) in
-      let there : SpecialItem b.0 → ItemLocated = λ s. inl (b.0, s, mixed_turned k c m' x b) in
-      elim (conflicts x b.0 b.3) [
-        | inr z ↦ ⊎_elim (λ y. here (inl y)) (λ y. there (inl y)) z
-        | inl old ↦ elim (assigned x b.1 b.4) [
-          | inr w ↦ here (inl w)
-          | inl p ↦ elim (assigned b.0 b.2 b.5) [
-            | inr w ↦ there (inl w)
-            | inl q ↦ elim (cases_in m (pair RoleConflict b.1 b.2)) [
-              | inr n ↦ inr (x, (b.0, b.1, b.2, old, p, q, n))
-              | inl e ↦ elim (gone b.1 b.2 e) [
-                | inl f ↦ absurd (b.6 f)
-                | inr z ↦ ⊎_elim (λ y. here (inr (b.1, y, b.4))) (λ y. there (inr (b.2, y, b.5))) z
-              ]
-            ]
-          ]
-        ]
-      ]
+    pub item_located : {k c : Kind} {x : ℕ} → Gains k m m' (λ x y. P x) → Gains c m m' (λ x y. P x)
+        → Gains RoleConflict m' m (λ r s. (y : ℕ) → Assigned k m' y r → P y) → Mixed k c m' x → Located P (Mixed k c) m m'
+    item_located {k} {c} {x} assigned conflicts gone b =
+        let here : P x → Located P (Mixed k c) m m' = λ p. inl (x, p, b) in
+        let there : P b.0 → Located P (Mixed k c) m m' = λ p. inl (b.0, p, mixed_turned k c m' x b) in
+        old (pairwise conflicts x b.0 b.3) (⊎_elim here there)
+        (λ e. old (assigned.parts x b.1 0 b.4) here
+        (λ p. old (assigned.parts b.0 b.2 0 b.5) there
+        (λ q. old (cases_in m (pair RoleConflict b.1 b.2)) (λ n. inr (x, (b.0, b.1, b.2, e, p, q, n)))
+        (λ i. old (pairwise gone b.1 b.2 i) (⊎_elim (λ f. here (f x b.4)) (λ f. there (f b.0 b.5))) (λ f. absurd (b.6 f))))))
 
--- Tasks that are newly at odds or taken are of W, and conflicts of users that are new name a user of Z.
-module _ (m m' : Facts) (W Z : ℕ → Type 0) (opened : (d : ℕ) → Open m' d → Open m d)
-    (odds : (t q : ℕ) → AtOdds m' t q → AtOdds m t q ⊎ (W t ⊎ W q))
-    (taken : (d t u : ℕ) → HasTaken m' d t u → HasTaken m d t u ⊎ W t)
-    (users : (u v : ℕ) → Conflict UserConflict m' u v → Conflict UserConflict m u v ⊎ (Z u ⊎ Z v)) where
-  abbrev pub SpecialTask : ℕ → Type 0
-  SpecialTask t = W t ⊎ ((z : ℕ) × Z z × ((d : ℕ) × Open m' d × HasTaken m' d t z))
-
-  abbrev pub TaskLocated : Type 0
-  TaskLocated = ((y : ℕ) × SpecialTask y × Breaks TakersApart m' y) ⊎ ((y : ℕ) × Breaks TakersApart m y)
-
-  together : (u v : ℕ) → Party m' u v → Party m u v ⊎ (Z u ⊎ Z v)
-  together u v (inl e) = inl (inl e)
-  together u v (inr e) = elim (users u v e) [ inl old ↦ inl (inr old) | inr w ↦ inr w ]
-
-  pub task_located : (t : ℕ) → Breaks TakersApart m' t → TaskLocated
-  task_located t b =
-      let here : SpecialTask t → TaskLocated = λ s. inl (t, s, b) in
-      let there : SpecialTask b.0 → TaskLocated = λ s. inl (b.0, s, took_turned m' t b) in
-      elim (odds t b.0 b.5) [
-        | inr z ↦ ⊎_elim (λ y. here (inl y)) (λ y. there (inl y)) z
-        | inl old ↦ elim (together b.2 b.3 b.6) [
-          | inr z ↦ ⊎_elim (λ y. here (inr (b.2, y, (b.1, b.4, b.7)))) (λ y. there (inr (b.3, y, (b.1, b.4, b.8)))) z
-          | inl p ↦ elim (taken b.1 t b.2 b.7) [
-            | inr w ↦ here (inl w)
-            | inl x ↦ elim (taken b.1 b.0 b.3 b.8) [
-              | inr w ↦ there (inl w)
-              | inl y ↦ inr (t, (b.0, b.1, b.2, b.3, opened b.1 b.4, old, p, x, y))
-            ]
-          ]
-        ]
-      ]
+    pub task_located : {t : ℕ} → Gains odds-kind m m' (λ x y. P x) → Gains Taken m m' (λ d x. P x)
+        → Gains UserConflict m m' (λ u v. (d x : ℕ) → Open m' d → HasTaken m' d x u → P x) → Gains OpenCase m m' (λ x y. ⊥)
+        → Breaks TakersApart m' t → Located P (Breaks TakersApart) m m'
+    task_located {t} odds taken users opened b =
+        let here : P t → Located P (Breaks TakersApart) m m' = λ p. inl (t, p, b) in
+        let there : P b.0 → Located P (Breaks TakersApart) m m' = λ p. inl (b.0, p, took_turned m' t b) in
+        old (pairwise odds t b.0 b.5) (⊎_elim here there)
+        (λ e. old (party users b.2 b.3 b.6) (⊎_elim (λ f. here (f b.1 t b.4 b.7)) (λ f. there (f b.1 b.0 b.4 b.8)))
+        (λ p. old (taken.parts b.1 t b.2 b.7) here
+        (λ x. old (taken.parts b.1 b.0 b.3 b.8) there
+        (λ y. old (opened.parts b.1 0 0 b.4) absurd (λ z. inr (t, (b.0, b.1, b.2, b.3, z, e, p, x, y)))))))

@@ -1,26 +1,12 @@
-use Rattle.std.proofs.Common.{◌≡◌, ℕ, ◌<◌, Some, sym, refl, ◌∙◌, subst}
+use Rattle.std.proofs.Common.{◌≡◌, ℕ, ◌<◌, Some, sym, ◌∙◌, subst, arith}
 use Rattle.facts.specs.declared.fact.Kind.{Kind}
-use Rattle.facts.specs.declared.fact.Kind.TheVariants.{UserRole, PermissionRole, TaskRole, Senior}
-use Rattle.facts.specs.declared.fact.Kind.TheVariants.{UserConflict, RoleConflict, PermissionConflict}
-use Rattle.facts.specs.declared.fact.Kind.TheVariants.{TaskConflict, AtOdds, OpenCase, Taken, Finished}
 use Rattle.facts.specs.Facts.{Facts, In, number, kind_of, size, entries, fact}
 use Rattle.facts.specs.Stores.{Only}
 use Rattle.facts.proofs.Ranges.{ranged}
 
 -- each kind is the one with its number
 kind_back : (k : Kind) → kind_of (number k) ≡ Some k
-kind_back UserRole = refl
-kind_back PermissionRole = refl
-kind_back TaskRole = refl
-kind_back Senior = refl
-kind_back UserConflict = refl
-kind_back RoleConflict = refl
-kind_back PermissionConflict = refl
-kind_back TaskConflict = refl
-kind_back AtOdds = refl
-kind_back OpenCase = refl
-kind_back Taken = refl
-kind_back Finished = refl
+kind_back k = grind arith
 
 -- the ranges of the entries of what is in a set of facts
 pub ranged_in : (m : Facts) → Only m → (k : Kind) (x y z : ℕ) → In m (fact (number k) x y z)

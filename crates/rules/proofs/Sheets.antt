@@ -1,23 +1,20 @@
-use Rattle.std.proofs.Common.{◌≡◌, ℕ, ◌-◌, List, ◌++◌, length, get_or, drop, ap, ◌∙◌, inl, inr, arith}
+use Rattle.std.proofs.Common.{◌≡◌, ℕ, ◌-◌, List, ◌++◌, length, get_or, drop, ap, ◌∙◌, arith}
 use Rattle.std.proofs.lemmas.List.{get_or-take, get_or-drop, get_or-append_right, length-take-le}
 use Rattle.std.proofs.Math.ListN.{get_or-append}
 use Rattle.std.specs.Array.{IsFirstChunk}
+use Rattle.facts.specs.declared.store.Store.{Ghosts}
+use Rattle.rules.specs.declared.inquiry.Inquiry.{Inquiry}
 use Rattle.rules.specs.Calls.{Scratch}
-use Rattle.rules.specs.Inquiries.{Used}
+use Rattle.rules.specs.Inquiries.{Walks}
 
 -- a sheet whose first 64 bytes were used as marks
-pub scratched : (a b c : List ℕ) → IsFirstChunk a b 64 → length c ≡ length b → Used b c → Scratch a (c ++ drop 64 a)
-scratched a b c h l u =
-    let n : length c ≡ 64 = l ∙ (ap length h.same ∙ length-take-le 64 a h.enough) in
+pub sheet_used : {S : Type 0} {st : Ghosts S} {i j : Inquiry S st} → Walks i j → (a : List ℕ) → IsFirstChunk a i.marks.now 64
+    → (d : List ℕ) → d ≡ j.marks.now → Scratch a (d ++ drop 64 a)
+sheet_used {i = i} {j} w a k d e =
+    let n : length d ≡ 64 = ap length e ∙ w.long ∙ (ap length k.same ∙ length-take-le 64 a k.enough) in
     record {
-      first = λ s k.
-          let new : get_or (c ++ drop 64 a) s 0 ≡ get_or c s 0 = get_or-append c (drop 64 a) 0 s (omega (arith, n)) in
-          let old : get_or b s 0 ≡ get_or a s 0 = ap (λ (x : List ℕ). get_or x s 0) h.same ∙ get_or-take 64 a s 0 k in
-          elim (u s k) [
-            | inl e ↦ inl (new ∙ e)
-            | inr w ↦ elim w [ inl e ↦ inr (inl (new ∙ e)) | inr e ↦ inr (inr (new ∙ (e ∙ old))) ]
-          ];
-      rest = λ s k.
-          get_or-append_right c (drop 64 a) 64 s 0 n k
-          ∙ (get_or-drop 64 a (s - 64) 0 ∙ ap (λ (x : ℕ). get_or a x 0) (omega arith));
+      first = λ s l.
+          let old : get_or i.marks.now s 0 ≡ get_or a s 0 = ap (λ (y : List ℕ). get_or y s 0) k.same ∙ get_or-take 64 a s 0 l in
+          rw (get_or-append d (drop 64 a) 0 s (omega (arith, n)), e) (rw old at (w.used s l));
+      rest = λ s l. grind (arith, get_or-append_right d (drop 64 a) 64 s 0 n l, get_or-drop 64 a (s - 64) 0);
     }

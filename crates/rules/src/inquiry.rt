@@ -18,7 +18,8 @@ pub(crate) struct Inquiry<'s, 'm, S: Store> {
     ghost only: { Only (after (S.facts store.now) change) },
 }
 
-// What can be asked of each number in turn by look-ups alone.
+// What can be asked of each number in turn by look-ups alone. A walk asks in mid-way, so the marks stay; what is tried below
+// needs no such promise, and one trait for both would have to make it an argument.
 pub(crate) trait Question {
     ghost use Rattle.facts.specs.Stores.{Decides};
     ghost use Rattle.rules.specs.Inquiries.{facts_of, Looks};
@@ -86,6 +87,7 @@ impl<'s, 'm, S: Store> Inquiry<'s, 'm, S> {
         ensures value { Decides result ((n : ℕ) × (n < end) × T.shows trial.now (facts_of self.old) n) }
         ensures walks { Walks self.old self.new }
     {
+        // No chain: what a closure does to the inquiry that it captures is lost to the proof.
         for n in 0..end {
             if trial.run(self, n) {
                 return true;

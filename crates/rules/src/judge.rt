@@ -64,6 +64,7 @@ impl Trial for TakenIn {
     }
 }
 
+// By cases, as whom a suspicion means is defined.
 impl Trial for Suspects<RoleSet> {
     ghost shows = { InScope };
 
@@ -129,7 +130,7 @@ impl<'s, 'm, S: Store> Inquiry<'s, 'm, S> {
         }
     }
 
-    // Whether the rule is broken at a role, a user, a permission or a task.
+    // Whether the rule is broken at a role, a user, a permission or a task. By cases, as what breaks a rule is defined.
     fn breaks(&mut self, rule: Rule, x: u8) -> bool
         ensures value { Decides result (Breaks rule (facts_of self.old) x) }
         ensures walks { Walks self.old self.new }
@@ -155,6 +156,7 @@ impl<'s, 'm, S: Store> Inquiry<'s, 'm, S> {
     }
 
     // Whether the rule is broken at a suspect.
+    #[tactic(auto, using(crate::proofs::Broken::breaking))]
     fn broken_at(&mut self, rule: Rule, suspects: Suspects<u8>) -> bool
         ensures value { Decides result ((x : ℕ) × Suspected suspects (facts_of self.old) x × Breaks rule (facts_of self.old) x) }
         ensures walks { Walks self.old self.new }
@@ -164,6 +166,7 @@ impl<'s, 'm, S: Store> Inquiry<'s, 'm, S> {
     }
 
     // Whether the facts keep the rule after the change.
+    #[tactic(auto, using(crate::proofs::Broken::decides_kept))]
     fn keeps(&mut self, judgement: Judgement, rule: Rule) -> bool
         ensures value { Held judgement rule (S.facts self.old.store.now) → Decides result (Keeps rule (facts_of self.old)) }
         ensures walks { Walks self.old self.new }
@@ -178,6 +181,7 @@ impl<'s, 'm, S: Store> Inquiry<'s, 'm, S> {
         ensures value { ((q : Rule) → Held judgement q (S.facts self.old.store.now)) → First (facts_of self.old) result }
         ensures walks { Walks self.old self.new }
     {
+        // No chain, as in `any`.
         for rule in ORDER {
             if !self.keeps(judgement, rule) {
                 return Some(rule);
@@ -187,7 +191,8 @@ impl<'s, 'm, S: Store> Inquiry<'s, 'm, S> {
     }
 }
 
-// A full judgement looks everywhere; a quick one only where the change can break a rule that held before.
+// A full judgement looks everywhere; a quick one only where the change can break a rule that held before. An enum and no closure:
+// clauses say by its cases what a judgement rests on.
 #[derive(Clone, Copy)]
 enum Judgement {
     Full,

@@ -1,4 +1,4 @@
-// A set of roles, as a value.
+// A set of roles, as a value: an array of answers, since a set on the heap would need memory that can run out.
 ghost use Rattle.std.specs.Prelude.{◌≡◌, ◌<◌};
 ghost use Rattle.facts.specs.Stores.{Decides};
 ghost use Rattle.rules.specs.Asking.{Among};

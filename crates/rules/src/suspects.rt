@@ -25,6 +25,7 @@ pub(crate) enum Suspects<R> {
     TakenBy(u8),
 }
 
+// An accessor for each variant, as `ok` and `err` of a `Result`: one for both would take a flag, and promise two things by it.
 impl Change {
     // The fact that is added, if it is of the kind.
     #[tactic(auto, using(crate::proofs::Gains::gains_other))]
@@ -123,7 +124,7 @@ fn taker_suspects(change: Change) -> Suspects<u8>
 }
 
 impl Rule {
-    // Where the change can break the rule, if it held before.
+    // Where the change can break the rule, if it held before. By cases, since each rule has its own reasons.
     pub(crate) fn suspects(self, change: Change) -> Suspects<u8>
         ensures { Enough self change result }
     {

@@ -1,24 +1,7 @@
-// The calls of a store with short answers, so that a test compares several at once.
-use cache::Cache;
+// A put whose refusal is its number, so that a test compares several at once.
 use facts::fact::Fact;
 use facts::store::Store;
 
-// 0, or the number of the refusal.
-pub(crate) fn put<S: Store>(store: &mut S, fact: Fact) -> u8 {
-    match store.put(fact) {
-        Ok(_) => 0,
-        Err(refusal) => refusal.into(),
-    }
-}
-
-pub(crate) fn has<S: Store>(store: &mut S, fact: Fact) -> char {
-    if store.has(fact) { 'y' } else { 'n' }
-}
-
-pub(crate) fn remembers<S: Store>(cache: &Cache<S>, fact: Fact) -> char {
-    match cache.remembers(fact) {
-        Some(true) => 'y',
-        Some(false) => 'n',
-        None => '-',
-    }
+pub(crate) fn put<S: Store>(store: &mut S, fact: Fact) -> Result<(), u8> {
+    store.put(fact).map_err(u8::from)
 }

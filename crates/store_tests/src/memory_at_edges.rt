@@ -1,7 +1,7 @@
 // What the stores do with the caller's memory, and what a cache remembers.
 ghost use Rattle.grid.specs.Bits.{GridKeeps};
 
-use crate::calls::{has, put, remembers};
+use crate::calls::put;
 use cache::Cache;
 use facts::fact::Fact;
 use facts::store::Store;
@@ -76,7 +76,7 @@ fn a_grid_under_a_cache_ends_there_too(rt: HostRuntime) -> Result<(), Fail> {
     cache.take(LAST);
     assert_eq!(rt;
         ([spare, cache.spare()], answers),
-        ([177_184, 177_183], [0, 0])
+        ([177_184, 177_183], [Ok(()), Ok(())])
     );
     assert_eq!(rt; edges(&bytes), [Some(1), Some(0), Some(GUARD)]);
     Ok(())
@@ -90,7 +90,7 @@ fn a_grid_of_fewer_bytes_writes_nothing(rt: HostRuntime) -> Result<(), Fail> {
     grid.take(FIRST);
     assert_eq!(rt;
         (answers, grid.spare(), grid.empty(), grid.has(FIRST)),
-        ([23, 1], 0, true, false)
+        ([Err(23), Err(1)], 0, true, false)
     );
     let untouched = vec![in rt.alloc(); GUARD; 22_148]?;
     assert!(rt; bytes == untouched);
@@ -110,14 +110,13 @@ fn a_full_list_refuses_and_a_take_makes_room(rt: HostRuntime) {
     list.take(FIRST);
     let spare = list.spare();
     let again = [put(&mut list, LAST), put(&mut list, FIRST)];
-    assert_eq!(rt; (full, spare, again), ([0, 0, 23, 0], 1, [0, 23]));
     assert_eq!(rt;
-        [
-            has(&mut list, FIRST),
-            has(&mut list, BESIDE),
-            has(&mut list, LAST),
-        ],
-        ['n', 'y', 'y']
+        (full, spare, again),
+        ([Ok(()), Ok(()), Err(23), Ok(())], 1, [Ok(()), Err(23)])
+    );
+    assert_eq!(rt;
+        [list.has(FIRST), list.has(BESIDE), list.has(LAST)],
+        [false, true, true]
     );
 }
 
@@ -144,7 +143,7 @@ fn a_list_uses_4096_places(rt: HostRuntime) -> Result<(), Fail> {
             [spare, list.spare()],
             [put(&mut list, FIRST), put(&mut list, taken(4_095))],
         ),
-        ([4_096, 0], [23, 0])
+        ([4_096, 0], [Err(23), Ok(())])
     );
     let ends = [
         places.get(4_095).copied(),
@@ -159,24 +158,29 @@ fn a_list_uses_4096_places(rt: HostRuntime) -> Result<(), Fail> {
 fn a_cache_remembers_what_it_was_asked(rt: HostRuntime) {
     let mut places = [NO_FACT; 2];
     let mut cache = Cache::new(List::new(&mut places));
-    let unasked = remembers(&cache, FIRST);
-    let absent = [unasked, has(&mut cache, FIRST), remembers(&cache, FIRST)];
+    let unasked = cache.remembers(FIRST);
+    let absent = (unasked, cache.has(FIRST), cache.remembers(FIRST));
     let accepted = put(&mut cache, FIRST);
-    let there = [
-        remembers(&cache, FIRST),
-        has(&mut cache, BESIDE),
-        remembers(&cache, FIRST),
-        has(&mut cache, FIRST),
-    ];
+    let there = (
+        cache.remembers(FIRST),
+        cache.has(BESIDE),
+        cache.remembers(FIRST),
+        cache.has(FIRST),
+    );
     cache.take(FIRST);
-    let gone = [
-        remembers(&cache, FIRST),
-        has(&mut cache, FIRST),
-        remembers(&cache, BESIDE),
-    ];
+    let gone = (
+        cache.remembers(FIRST),
+        cache.has(FIRST),
+        cache.remembers(BESIDE),
+    );
     assert_eq!(rt;
         (absent, accepted, there, gone),
-        (['-', 'n', 'n'], 0, ['y', 'n', '-', 'y'], ['n', 'n', '-'])
+        (
+            (None, false, Some(false)),
+            Ok(()),
+            (Some(true), false, None, true),
+            (Some(false), false, None),
+        )
     );
 }
 
@@ -189,16 +193,21 @@ fn a_refused_put_is_not_remembered_as_there(rt: HostRuntime) {
         put(&mut cache, FIRST),
         put(&mut cache, NO_FACT),
     ];
-    let absent = [
-        remembers(&cache, FIRST),
-        has(&mut cache, FIRST),
-        remembers(&cache, FIRST),
-    ];
+    let absent = (
+        cache.remembers(FIRST),
+        cache.has(FIRST),
+        cache.remembers(FIRST),
+    );
     cache.take(LAST);
     let accepted = put(&mut cache, FIRST);
-    let there = [has(&mut cache, FIRST), has(&mut cache, LAST)];
+    let there = [cache.has(FIRST), cache.has(LAST)];
     assert_eq!(rt;
         (refused, absent, accepted, there),
-        ([0, 23, 1], ['-', 'n', 'n'], 0, ['y', 'n'])
+        (
+            [Ok(()), Err(23), Err(1)],
+            (None, false, Some(false)),
+            Ok(()),
+            [true, false],
+        )
     );
 }

@@ -10,6 +10,7 @@ use std::fmt;
 #[derive(Clone, Copy)]
 pub struct InWords(pub Fact);
 
+// Not `Display`: an entry is another crate's, and has no words there.
 fn noun(entry: Entry) -> &'static str
     ensures { result.now ≡ noun entry }
 {

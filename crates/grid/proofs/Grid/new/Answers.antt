@@ -1,4 +1,4 @@
-use Rattle.std.proofs.Common.{refl, ap, drop, arith, rules}
+use Rattle.std.proofs.Common.{refl, arith, rules}
 use Rattle.grid.proofs.Grids.{Blank, blank_empty, blank_counted, clear_blank, clear_rest, narrow_blank}
 use Rattle.grid.proofs.Grid.new.Goals as goal
 use Rattle.grid.proofs.Grid.new.Goals.{in-Some, in_default, Joined-first_chunk_mut}
@@ -17,16 +17,9 @@ returns-clause-empty c = blank_empty _ (blank (goal.at.returns-clause-empty c).J
 
 pub returns-clause-outside : goal.returns-clause-outside
 returns-clause-outside c = elim c.match-first_chunk_mut.branch [
-  | in-Some w ↦ (
-    record {
-      named = refl;
-      long = c.match-first_chunk_mut.auto.bytes;
-      rest = clear_rest _ _ _ _ _ w.in-Some.ensures.cases (w.fill.ensures.after (search rules)) w.bytes-is;
-    },
-    λ h. absurd (omega (arith, w.in-Some.ensures.cases)),
-  )
-  | in_default w ↦ (
-    record { named = refl; long = c.match-first_chunk_mut.auto.bytes; rest = ap (drop 22148) w.bytes-is },
-    λ _. w.bytes-is,
-  )
+  | in-Some w ↦
+      let chunk = w.in-Some.ensures.cases in
+      let rest = clear_rest _ _ _ _ _ chunk (w.fill.ensures.after (search rules)) w.bytes-is in
+      grind arith
+  | in_default w ↦ grind (arith, w.bytes-is)
 ]

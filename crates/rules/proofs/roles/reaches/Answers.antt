@@ -1,10 +1,6 @@
-use Rattle.std.proofs.Common.{rules}
-use Rattle.std.specs.Array.{IsFirstChunk}
-use Rattle.rules.proofs.Sheets.{scratched}
+use Rattle.std.proofs.Common.{arith}
+use Rattle.rules.proofs.Sheets.{sheet_used}
 use Rattle.rules.proofs.roles.reaches.Goals as goal
 
 pub returns-clause-sheet : goal.returns-clause-sheet
-returns-clause-sheet g c =
-    let chunk : IsFirstChunk c.args.sheet.now c.in_ok-marks.marks.now 64 = search rules in
-    let walks = c.leads.ensures.walks in
-    search (rules, scratched _ _ _ chunk walks.long walks.used)
+returns-clause-sheet g c = grind (arith, sheet_used c.leads.ensures.walks)

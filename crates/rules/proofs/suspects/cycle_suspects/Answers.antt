@@ -1,15 +1,10 @@
-use Rattle.rules.specs.declared.change.Change.TheVariants.{Add}
-use Rattle.rules.specs.declared.rule.Rule.TheVariants.{NoCycle}
-use Rattle.rules.specs.declared.suspects.Suspects.TheVariants.{One}
-use Rattle.rules.specs.Judging.{Breaks}
-use Rattle.rules.proofs.Enough.{cycle_link, cycle_none, enough_at}
+use Rattle.std.proofs.Common.{refl}
+use Rattle.rules.proofs.Gains.{none, one}
+use Rattle.rules.proofs.Located.{cycle_located}
 use Rattle.rules.proofs.suspects.cycle_suspects.Goals as goal
 
 pub returns-in-Some : goal.returns-in-Some
-returns-in-Some c =
-    let at = c.in-Some.ensures in
-    let f = c.in-Some.link in
-    enough_at (Breaks NoCycle) c.args.change (Add f) (One f.a) at.0 (cycle_link f)
+returns-in-Some c m o x b = cycle_located (one c.in-Some.ensures.0 refl) b
 
 pub returns : goal.returns
-returns c = cycle_none c.args.change c.in_default.ensures
+returns c m o x b = cycle_located (none m c.args.change c.in_default.ensures) b

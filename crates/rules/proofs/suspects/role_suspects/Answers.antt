@@ -1,21 +1,22 @@
-use Rattle.rules.specs.declared.change.Change.TheVariants.{Add}
 use Rattle.rules.specs.declared.rule.Rule.TheVariants.{RolesApart}
-use Rattle.rules.specs.declared.suspects.Suspects.TheVariants.{Reachers}
-use Rattle.rules.specs.Judging.{Breaks}
-use Rattle.rules.proofs.Enough.{roles_added, roles_none, enough_at}
+use Rattle.rules.proofs.Broken.{breaking}
+use Rattle.rules.proofs.Gains.{none, one}
+use Rattle.rules.proofs.Located.{roles_located}
 use Rattle.rules.proofs.suspects.role_suspects.Goals as goal
 
 pub returns-in-Some : goal.returns-in-Some
-returns-in-Some c =
-    let at = c.in-Some.ensures in
-    let f = c.in-Some.link in
-    enough_at (Breaks RolesApart) c.args.change (Add f) (Reachers f.a) at.0 (roles_added f)
+returns-in-Some c m o x b =
+    let e = c.in-Some.ensures.0 in
+    let l = breaking _ o RolesApart x b in
+    roles_located (one e (λ p. (l, p))) (one e (λ p. (l, p))) b
 
 pub returns-in-Some-added : goal.returns-in-Some-added
-returns-in-Some-added c =
-    let at = c.in-Some-added.ensures in
-    let f = c.in-Some-added.conflict in
-    enough_at (Breaks RolesApart) c.args.change (Add f) (Reachers f.a) at.0 (roles_added f)
+returns-in-Some-added c m o x b =
+    let e = c.in-Some-added.ensures.0 in
+    let l = breaking _ o RolesApart x b in
+    roles_located (one e (λ p. (l, p))) (one e (λ p. (l, p))) b
 
 pub returns : goal.returns
-returns c = roles_none c.args.change c.in_default.ensures c.in_default-added.ensures
+returns c m o x b =
+    let h = c.args.change in
+    roles_located (none m h c.in_default.ensures) (none m h c.in_default-added.ensures) b
