@@ -36,6 +36,7 @@ fn slot_of(fact: Fact) -> usize
     sum % SLOTS
 }
 
+// That the slots are 64 is said for the callers, whose proofs do not see the type of what they lend.
 #[tactic(auto, unfolding(crate::specs::Memory::recalled), using(std::proofs::lemmas::Grind::common_steps, facts::proofs::Sets::same_refl))]
 fn note(slots: &mut [Option<Answer>; SLOTS], fact: Fact, there: bool)
     ensures slots { slots.new ≡ noted slots.old fact there }

@@ -19,10 +19,6 @@ pub same_refl : (f : Fact) → same_fact f f ≡ true
 unfolding same_fact
 same_refl f = grind (arith, nat_tests)
 
--- every other fact, in a set that was changed at one
-pub with_other : (m : Facts) (f g : Fact) (v : Bool) → same_fact f g ≡ false → with m f v g ≡ m g
-with_other m f g v d = rw d
-
 -- a fact is in a set or is not
 pub cases_in : (m : Facts) (f : Fact) → In m f ⊎ ¬ (In m f)
 cases_in m f = grind arith

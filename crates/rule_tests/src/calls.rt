@@ -1,4 +1,5 @@
-// The calls with numbers for rules and refusals, so that a test compares several at once.
+// The calls with the numbers of rules and refusals in their answers, so that a test shows a wrong number too, and several answers
+// at once.
 use facts::fact::{Fact, Kind};
 use facts::store::Store;
 use rules::change::Change;
@@ -63,6 +64,7 @@ pub(crate) fn verdicts<S: Store>(store: &mut S, change: Change) -> (Verdict, Ver
     (full, quick)
 }
 
+// Here and in `removing` the four numbers stand as a test reads best; each is one variant of a change.
 pub(crate) fn adding<S: Store>(store: &mut S, kind: Kind, a: u8, b: u8) -> (Verdict, Verdict) {
     verdicts(store, Change::Add(Fact::new(kind, a, b, 0)))
 }

@@ -51,6 +51,10 @@ pub record Walked (L : ℕ → ℕ → Type 0) (P : ℕ → Type 0) (b : List �
   pub only : (s : ℕ) → s < 64 → mark b s ≡ 1 → From L P s
   pub all : (s : ℕ) → From L P s → (s < 64) × (mark b s ≡ 1)
 
+-- after a walk each mark is 0 or 1
+abbrev pub Swept : List ℕ → Type 0
+Swept b = (s : ℕ) → s < 64 → mark b s < 2
+
 -- how many of the first n are not done
 unfoldable pub undone : List ℕ → ℕ → ℕ
 undone a zero = 0

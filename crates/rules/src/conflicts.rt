@@ -4,11 +4,12 @@ ghost use Rattle.facts.specs.declared.fact.Kind.TheVariants.{UserConflict, RoleC
 ghost use Rattle.facts.specs.Stores.{Decides};
 ghost use Rattle.rules.specs.Asking.{Among};
 ghost use Rattle.rules.specs.Inquiries.{facts_of, Walks};
-ghost use Rattle.rules.specs.Judging.{Meet, Conflicting, Mixed, Breaks};
+ghost use Rattle.rules.specs.Judging.{Meet, Mixed, Breaks};
 ghost use Rattle.rules.specs.Roles.{pair, Assigned, Holds, Conflict};
 ghost use Rattle.rules.specs.declared.rule.Rule.TheVariants.{PartiesApart};
 
 use crate::inquiry::{Inquiry, Trial};
+use crate::item_kinds::ItemKinds;
 use crate::relations::RolesOf;
 use crate::role_set::RoleSet;
 use facts::fact::Kind;
@@ -56,22 +57,21 @@ impl Trial for Between {
 // The items that conflict with an item, and one of whose roles does not conflict with one of that item's.
 #[derive(Clone, Copy)]
 struct Opposed {
-    assigned: Kind,
-    conflict: Kind,
+    kinds: ItemKinds,
     item: u8,
     roles: RoleSet,
 }
 
 impl Trial for Opposed {
-    ghost shows = { λ q m y. Conflict q.conflict m q.item y
-        × Meet (Among q.roles) (Assigned q.assigned m y) false m };
+    ghost shows = { λ q m y. Conflict q.kinds.conflict m q.item y
+        × Meet (Among q.roles) (Assigned q.kinds.assigned m y) false m };
 
     #[tactic(auto, using(crate::proofs::Frame::looks_on, crate::proofs::Frame::walks_after))]
     fn run<S: Store>(&self, inquiry: &mut Inquiry<S>, n: u8) -> bool {
-        if !inquiry.pairs(self.conflict, self.item, n) {
+        if !inquiry.pairs(self.kinds.conflict, self.item, n) {
             return false;
         }
-        let others = inquiry.collect(&RolesOf(self.assigned, n));
+        let others = inquiry.collect(&RolesOf(self.kinds.assigned, n));
         inquiry.meet(self.roles, others, false)
     }
 }
@@ -110,19 +110,18 @@ impl<'s, 'm, S: Store> Inquiry<'s, 'm, S> {
         self.any(&between, 64)
     }
 
-    // Whether an item conflicts with one below the end, and two of their roles do not conflict.
+    // Whether an item conflicts with another, and two of their roles do not conflict.
     #[tactic(auto, using(crate::proofs::Broken::decides_mixed))]
-    pub(crate) fn mixed(&mut self, assigned: Kind, conflict: Kind, item: u8, end: u8) -> bool
-        ensures value { Conflicting assigned conflict end → Decides result (Mixed assigned conflict (facts_of self.old) item) }
+    pub(crate) fn mixed(&mut self, kinds: ItemKinds, item: u8) -> bool
+        ensures value { Decides result (Mixed kinds.assigned kinds.conflict (facts_of self.old) item) }
         ensures walks { Walks self.old self.new }
     {
         let opposed = Opposed {
-            assigned,
-            conflict,
+            kinds,
             item,
-            roles: self.collect(&RolesOf(assigned, item)),
+            roles: self.collect(&RolesOf(kinds.assigned, item)),
         };
-        self.any(&opposed, end)
+        self.any(&opposed, kinds.end)
     }
 
     // Whether a user's party holds two conflicting roles between them.

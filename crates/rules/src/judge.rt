@@ -16,6 +16,7 @@ ghost use Rattle.rules.specs.Tasks.{Open, HasTaken};
 
 use crate::change::Change;
 use crate::inquiry::{Inquiry, Trial};
+use crate::item_kinds::ItemKinds;
 use crate::refusal::Refusal;
 use crate::relations::Is;
 use crate::role_set::RoleSet;
@@ -139,10 +140,8 @@ impl<'s, 'm, S: Store> Inquiry<'s, 'm, S> {
             Rule::NoCycle => self.is_above(x, x),
             Rule::RolesApart => self.reaches_conflict(x),
             Rule::PartiesApart => self.party_holds_conflict(x),
-            Rule::PermissionsApart => {
-                self.mixed(Kind::PermissionRole, Kind::PermissionConflict, x, 64)
-            }
-            Rule::TasksApart => self.mixed(Kind::TaskRole, Kind::TaskConflict, x, 32),
+            Rule::PermissionsApart => self.mixed(ItemKinds::PERMISSIONS, x),
+            Rule::TasksApart => self.mixed(ItemKinds::TASKS, x),
             Rule::TakersApart => self.party_took_both(x),
         }
     }

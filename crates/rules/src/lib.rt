@@ -4,6 +4,7 @@
 pub mod change;
 mod conflicts;
 mod inquiry;
+mod item_kinds;
 pub mod judge;
 pub mod laws;
 pub mod refusal;

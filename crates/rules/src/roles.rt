@@ -1,6 +1,7 @@
 // Who reaches, holds and carries what. Each call asks the store and changes nothing of it, and walks on the caller's sheet.
-// Each sets its inquiry up in the same few lines: a function that took the question as a closure would have to say in its
-// contract what that question means. The store and the sheet are two, since each is lent for the one call.
+// Each sets its inquiry up in the same few lines. A constructor was tried, and the proof does not close: a sheet that is lent
+// through it comes back unknown. A function that took the question as a closure would have to say in its contract what the
+// question means. The store and the sheet are two, since each is lent for the one call.
 ghost use Rattle.std.specs.Prelude.{◌<◌, length};
 ghost use Rattle.facts.specs.Stores.{Decides};
 ghost use Rattle.rules.specs.Asking.{Asks, Exactly};

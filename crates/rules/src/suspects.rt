@@ -6,6 +6,7 @@ ghost use Rattle.rules.specs.declared.change.Change.TheVariants.{Add, Remove};
 ghost use Rattle.rules.specs.declared.rule.Rule.TheVariants.{NoCycle, RolesApart, PartiesApart, TakersApart};
 
 use crate::change::Change;
+use crate::item_kinds::ItemKinds;
 use crate::rule::Rule;
 use facts::fact::{Fact, Kind};
 
@@ -89,18 +90,17 @@ fn party_suspects(change: Change) -> Suspects<u8>
     Suspects::Nobody
 }
 
-// Of items that are assigned to roles, and conflict, by these kinds.
-fn item_suspects(change: Change, assigned: Kind, conflict: Kind) -> Suspects<u8>
-    ensures { EnoughItems assigned conflict change result }
+fn item_suspects(change: Change, kinds: ItemKinds) -> Suspects<u8>
+    ensures { EnoughItems kinds.assigned kinds.conflict change result }
 {
-    if let Some(added) = change.added(assigned) {
+    if let Some(added) = change.added(kinds.assigned) {
         return Suspects::One(added.a);
     }
-    if let Some(added) = change.added(conflict) {
+    if let Some(added) = change.added(kinds.conflict) {
         return Suspects::One(added.a);
     }
     if let Some(gone) = change.removed(Kind::RoleConflict) {
-        return Suspects::Items(assigned, gone.a);
+        return Suspects::Items(kinds.assigned, gone.a);
     }
     Suspects::Nobody
 }
@@ -132,12 +132,8 @@ impl Rule {
             Rule::NoCycle => cycle_suspects(change),
             Rule::RolesApart => role_suspects(change),
             Rule::PartiesApart => party_suspects(change),
-            Rule::PermissionsApart => item_suspects(
-                change,
-                Kind::PermissionRole,
-                Kind::PermissionConflict,
-            ),
-            Rule::TasksApart => item_suspects(change, Kind::TaskRole, Kind::TaskConflict),
+            Rule::PermissionsApart => item_suspects(change, ItemKinds::PERMISSIONS),
+            Rule::TasksApart => item_suspects(change, ItemKinds::TASKS),
             Rule::TakersApart => taker_suspects(change),
         }
     }

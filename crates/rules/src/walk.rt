@@ -5,21 +5,21 @@ ghost use Rattle.facts.specs.Stores.{Decides};
 ghost use Rattle.rules.specs.Asking.{Among, Exactly};
 ghost use Rattle.rules.specs.Inquiries.{facts_of, Walks};
 ghost use Rattle.rules.specs.Roles.{Link};
-ghost use Rattle.rules.specs.Walks.{Linked, From, Leads, mark, Pended, Ended, Walked};
+ghost use Rattle.rules.specs.Walks.{Linked, From, Leads, mark, Pended, Ended, Walked, Swept};
 
 use crate::inquiry::{Inquiry, Question};
 use crate::role_set::RoleSet;
 use facts::fact::{Fact, Kind};
 use facts::store::Store;
 
-// Along a link to the junior role, or to the senior one.
+// Along a link to the junior role, or to the senior one. An enum, since what a walk finds is said by its cases (`Linked`).
 #[derive(Clone, Copy)]
 pub(crate) enum Way {
     Down,
     Up,
 }
 
-// No role is met.
+// No role is met. The clauses on the length here and below say what the type does, for the proof of a walk, which does not see it.
 fn clear(marks: &mut [u8; 64])
     ensures zeros { (s : ℕ) → s < 64 → mark marks.new s ≡ 0 }
     ensures long { length marks.new ≡ length marks.old }
@@ -32,9 +32,9 @@ fn pend(roles: &RoleSet, marks: &mut [u8; 64])
     ensures pended { Pended (λ s. slice_index_or roles.now.members s false) marks.old marks.new }
     ensures long { length marks.new ≡ length marks.old }
 {
-    for (role, member) in roles.members.iter().enumerate() {
-        if *member && marks[role] == 0 {
-            marks[role] = 2;
+    for (role, mark) in marks.iter_mut().enumerate() {
+        if *mark == 0 && roles.contains(role as u32) {
+            *mark = 2;
         }
     }
 }
@@ -94,6 +94,7 @@ impl<'s, 'm, S: Store> Inquiry<'s, 'm, S> {
         ensures value { Decides result
             (Leads (Linked way (facts_of self.old)) (Among first.now) (G.says goal.now (facts_of self.old))) }
         ensures marks { result ≡ false → Walked (Linked way (facts_of self.old)) (Among first.now) self.new.marks.now }
+        ensures swept { Swept self.new.marks.now }
         ensures walks { Walks self.old self.new }
     {
         let marks = &mut *self.marks;
@@ -117,6 +118,7 @@ impl<'s, 'm, S: Store> Inquiry<'s, 'm, S> {
     pub(crate) fn leads<A: Question, G: Question>(&mut self, start: &A, goal: &G) -> bool
         ensures value { Decides result
             (Leads (Link (facts_of self.old)) (A.says start.now (facts_of self.old)) (G.says goal.now (facts_of self.old))) }
+        ensures swept { Swept self.new.marks.now }
         ensures walks { Walks self.old self.new }
     {
         let first = self.collect(start);
@@ -126,6 +128,7 @@ impl<'s, 'm, S: Store> Inquiry<'s, 'm, S> {
     // The roles that a walk from the roles of the start leads to.
     pub(crate) fn roles_from<A: Question>(&mut self, start: &A, way: Way) -> RoleSet
         ensures value { Exactly result (From (Linked way (facts_of self.old)) (A.says start.now (facts_of self.old))) }
+        ensures swept { Swept self.new.marks.now }
         ensures walks { Walks self.old self.new }
     {
         let first = self.collect(start);

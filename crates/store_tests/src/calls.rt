@@ -1,4 +1,4 @@
-// A put whose refusal is its number, so that a test compares several at once.
+// A put whose refusal is its number, so that a test shows a wrong number too.
 use facts::fact::Fact;
 use facts::store::Store;
 

@@ -1,4 +1,5 @@
 // What the stores do with the caller's memory, and what a cache remembers.
+// Kinds stand as their numbers, so that a test does not lean on the enum that it tests.
 ghost use Rattle.grid.specs.Bits.{GridKeeps};
 
 use crate::calls::put;

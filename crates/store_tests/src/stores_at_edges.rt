@@ -1,4 +1,5 @@
 // What every kind of store does alike, and its most.
+// Kinds stand as their numbers, so that a test does not lean on the enum that it tests.
 use cache::Cache;
 use facts::fact::Fact;
 use facts::laws::{put_then_has, put_then_take, put_twice, spare_within, take_then_has};

@@ -10,7 +10,7 @@ use std::fmt;
 #[derive(Clone, Copy)]
 pub struct InWords(pub Fact);
 
-// Not `Display`: an entry is another crate's, and has no words there.
+// Not `Display`: what an entry is called is promised, and printing promises nothing.
 fn noun(entry: Entry) -> &'static str
     ensures { result.now ≡ noun entry }
 {
