@@ -27,7 +27,7 @@ pub(crate) fn size(answer: Result<RoleSet, Refusal>) -> Result<usize, u8> {
         .map_err(u8::from)
 }
 
-// Puts a fact of two entries; false if it is refused.
+// Puts a fact of two entries, which stand in one line of a test; false if it is refused.
 pub(crate) fn add<S: Store>(store: &mut S, kind: Kind, a: u8, b: u8) -> bool {
     store.put(Fact::new(kind, a, b, 0)).is_ok()
 }
@@ -64,7 +64,8 @@ pub(crate) fn verdicts<S: Store>(store: &mut S, change: Change) -> (Verdict, Ver
     (full, quick)
 }
 
-// Here and in `removing` the four numbers stand as a test reads best; each is one variant of a change.
+// Here and in `removing` a change stands in one line of a test: with a `Fact` built at each call a test would be no plainer. Each
+// makes one variant of a change, as the enum does.
 pub(crate) fn adding<S: Store>(store: &mut S, kind: Kind, a: u8, b: u8) -> (Verdict, Verdict) {
     verdicts(store, Change::Add(Fact::new(kind, a, b, 0)))
 }

@@ -16,7 +16,7 @@ fn since<S: Store>(store: &Counting<S>, last: &mut u64) -> u64 {
     more
 }
 
-// The look-ups of a quick judgement.
+// The look-ups of a quick judgement on a fact that is added, whose numbers stand in one line of a test.
 fn judged<S: Store>(store: &mut Counting<S>, kind: Kind, a: u8, b: u8) -> u64 {
     let before = store.asked();
     let mut sheet = [0u8; 64];

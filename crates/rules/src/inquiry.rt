@@ -87,7 +87,7 @@ impl<'s, 'm, S: Store> Inquiry<'s, 'm, S> {
         ensures value { Decides result ((n : ℕ) × (n < end) × T.shows trial.now (facts_of self.old) n) }
         ensures walks { Walks self.old self.new }
     {
-        // No chain: what a closure does to the inquiry that it captures is lost to the proof.
+        // A chain was tried, and its proof does not close: what a closure does to the inquiry that it captures is lost.
         for n in 0..end {
             if trial.run(self, n) {
                 return true;

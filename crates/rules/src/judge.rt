@@ -180,7 +180,7 @@ impl<'s, 'm, S: Store> Inquiry<'s, 'm, S> {
         ensures value { ((q : Rule) → Held judgement q (S.facts self.old.store.now)) → First (facts_of self.old) result }
         ensures walks { Walks self.old self.new }
     {
-        // No chain, as in `any`.
+        // No chain, for the reason given at `any`.
         for rule in ORDER {
             if !self.keeps(judgement, rule) {
                 return Some(rule);
@@ -209,6 +209,7 @@ impl Judgement {
     }
 }
 
+// Makes its inquiry in the lines that stand in `roles` too, and takes the store and the sheet as two, for the reasons given there.
 #[tactic(auto, using(crate::proofs::Gains::only_after))]
 fn judge_by<S: Store>(
     judgement: Judgement,

@@ -124,7 +124,8 @@ fn taker_suspects(change: Change) -> Suspects<u8>
 }
 
 impl Rule {
-    // Where the change can break the rule, if it held before. By cases, since each rule has its own reasons.
+    // Where the change can break the rule, if it held before. By cases, as what breaks a rule is defined (`Breaks`, by which `Enough`
+    // is said): a closure for each rule would have to be given that meaning at each call.
     pub(crate) fn suspects(self, change: Change) -> Suspects<u8>
         ensures { Enough self change result }
     {

@@ -1,4 +1,5 @@
 // The ranges of the kinds' entries, the numbers of the kinds, and the numbering of the facts.
+// Kinds stand as their numbers, so that a test does not lean on the enum that it tests.
 use facts::fact::{Fact, Kind, UnknownKind};
 use facts::refusal::Refusal;
 use grid::numbering::bit_number;
