@@ -1,6 +1,5 @@
-use Rattle.std.proofs.Common.{◌≡◌, ℕ, ◌<◌, ◌≤◌, false, get_or, length}
+use Rattle.std.proofs.Common.{◌≡◌, ℕ, ◌<◌, ◌≤◌, false, cond, get_or, length}
 use Rattle.rules.specs.Walks.{NonZero, mark}
-use Rattle.std.proofs.Common.{cond}
 use Rattle.rules.proofs.walk.pend.Given as goal
 
 abbrev pub invariant-loop-role : goal.invariant-loop-role
