@@ -30,8 +30,9 @@ pub none_recalled : (f : Fact) → recalled (replicate 64 None) f ≡ None
 unfolding recalled
 none_recalled f = let h = slot_below f in rw get_or-replicate
 
-pub none_honest : (m : Facts) → Honest m (replicate 64 None)
-none_honest m f b e = let n = none_recalled f in cc
+-- slots of which nothing is remembered are honest
+pub none_honest : (m : Facts) (xs : Slots) → ((f : Fact) → recalled xs f ≡ None) → Honest m xs
+none_honest m xs h f b e = let n = h f in cc
 
 -- an answer is noted of a set that changed at its fact alone
 pub noted_honest : {m m' : Facts} {ys : Slots} (xs : Slots) (f : Fact) (b : Bool) → ys ≡ noted xs f b → length xs ≡ 64 → m' ≡ with m f b

@@ -3,7 +3,7 @@ use Rattle.std.proofs.lemmas.Bool.Decides.{nat_tests}
 use Rattle.grid.specs.Bits.{tally}
 
 -- tests that agree below n have one tally
-tally_same : (p q : ℕ → Bool) (n : ℕ) → ((k : ℕ) → k < n → q k ≡ p k) → tally q n ≡ tally p n
+pub tally_same : (p q : ℕ → Bool) (n : ℕ) → ((k : ℕ) → k < n → q k ≡ p k) → tally q n ≡ tally p n
 unfolding tally
 tally_same p q zero e = refl
 tally_same p q (suc n) e = grind (arith, nat_tests, tally_same p q n, e n)

@@ -97,7 +97,7 @@ module _ (m : Facts) (o : Only m) where
       (h.0, y.1, (h.5, (h.1, x.0, (h.4, (h.2, x.2, (h.7, (h.3, y.2, (h.8, h.6)))))))))
 
   -- what reaches a role is a role
-  reaching_role : (r s : ℕ) → s < 64 → Reaches m r s → r < 64
+  pub reaching_role : (r s : ℕ) → s < 64 → Reaches m r s → r < 64
   reaching_role r s l same = l
   reaching_role r s l (down {t = t} e p) = (ranged_pair m o Senior r t e).0
 

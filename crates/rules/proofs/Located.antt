@@ -13,10 +13,10 @@ use Rattle.rules.proofs.Gains.{Gains}
 use Rattle.rules.proofs.Marks.{chain_on}
 
 -- a pair may be named in either order
-conflict_swap : (k : Kind) (m : Facts) (x y : ℕ) → Conflict k m x y → Conflict k m y x
+pub conflict_swap : (k : Kind) (m : Facts) (x y : ℕ) → Conflict k m x y → Conflict k m y x
 conflict_swap k m x y e = grind (arith, e)
 
-party_swap : (m : Facts) (u v : ℕ) → Party m u v → Party m v u
+pub party_swap : (m : Facts) (u v : ℕ) → Party m u v → Party m v u
 party_swap m u v (inl e) = inl (sym e)
 party_swap m u v (inr e) = inr (conflict_swap UserConflict m u v e)
 
@@ -56,7 +56,7 @@ module _ {m m' : Facts} where
   party g u v (inr e) = old (pairwise g u v e) inr (λ o. inl (inr o))
 
   -- a chain is an old one, or comes by a role at which a new link starts
-  split : {Z : ℕ → Type 0} → Gains Senior m m' (λ x y. Z x) → {r s : ℕ}
+  pub split : {Z : ℕ → Type 0} → Gains Senior m m' (λ x y. Z x) → {r s : ℕ}
       → Reaches m' r s → Reaches m r s ⊎ ((z : ℕ) × Z z × Reaches m' r z × Above m' z s)
   split g same = inl same
   split g {r} {s} (down {t = t} e p) = old (g.parts r t 0 e) (λ z. inr (r, z, same, (t, e, p)))

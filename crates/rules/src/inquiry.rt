@@ -53,16 +53,19 @@ impl<'s, 'm, S: Store> Inquiry<'s, 'm, S> {
     ghost use Rattle.rules.specs.Inquiries.{facts_of, Looks, Walks};
     ghost use Rattle.rules.specs.Roles.{pair, Party};
 
-    // Whether a fact is in the set after the change.
+    // Whether a fact is in the set after the change. The store is asked in one place, and a question goes through the functions
+    // with a hint to the compiler: without both, a look-up costs twice as much.
+    #[inline(always)]
     #[tactic(auto, unfolding(facts::specs::Facts::same_fact))]
     pub(crate) fn has(&mut self, fact: Fact) -> bool
         ensures value { result ≡ facts_of self.old fact }
         ensures looks { Looks self.old self.new }
     {
-        match self.change {
-            Change::Nothing => self.store.has(fact),
-            Change::Add(added) => added == fact || self.store.has(fact),
-            Change::Remove(removed) => removed != fact && self.store.has(fact),
+        let change = self.change;
+        match change {
+            Change::Add(added) if added == fact => true,
+            Change::Remove(removed) if removed == fact => false,
+            _ => self.store.has(fact),
         }
     }
 
@@ -97,6 +100,7 @@ impl<'s, 'm, S: Store> Inquiry<'s, 'm, S> {
     }
 
     // The roles that answer yes.
+    #[inline(always)]
     pub(crate) fn collect<Q: Question>(&mut self, question: &Q) -> RoleSet
         ensures value { Exactly result (Q.says question.now (facts_of self.old)) }
         ensures looks { Looks self.old self.new }

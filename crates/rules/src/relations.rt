@@ -37,6 +37,7 @@ impl Question for RolesOf {
 
 impl<'s, 'm, S: Store> Inquiry<'s, 'm, S> {
     // Whether one role lies above another.
+    #[inline(always)]
     #[tactic(auto, using(crate::proofs::Reach::decides_above))]
     pub(crate) fn is_above(&mut self, senior: u8, junior: u8) -> bool
         ensures value { Decides result (Above (facts_of self.old) senior junior) }
@@ -50,6 +51,7 @@ impl<'s, 'm, S: Store> Inquiry<'s, 'm, S> {
     }
 
     // Whether a user holds a role.
+    #[inline(always)]
     #[tactic(auto, using(crate::proofs::Reach::decides_holding))]
     pub(crate) fn user_holds(&mut self, user: u8, role: u8) -> bool
         ensures value { Decides result (Holds (facts_of self.old) user role) }
@@ -59,6 +61,7 @@ impl<'s, 'm, S: Store> Inquiry<'s, 'm, S> {
     }
 
     // Whether a user has a permission.
+    #[inline(always)]
     #[tactic(auto, using(crate::proofs::Reach::decides_having))]
     pub(crate) fn user_has(&mut self, user: u8, permission: u8) -> bool
         ensures value { Decides result (Has (facts_of self.old) user permission) }
@@ -71,6 +74,7 @@ impl<'s, 'm, S: Store> Inquiry<'s, 'm, S> {
     }
 
     // The roles that a user holds.
+    #[inline(always)]
     #[tactic(auto, using(crate::proofs::Reach::exactly_held))]
     pub(crate) fn held_by(&mut self, user: u8) -> RoleSet
         ensures value { Exactly result (Holds (facts_of self.old) user) }

@@ -48,13 +48,15 @@ fn pending(marks: &[u8; 64]) -> Option<u8>
     Some(role as u8)
 }
 
-// The roles that are done.
+// The roles that are done. A `map` of the marks was tried, and is several times slower.
 fn done(marks: &[u8; 64]) -> RoleSet
     ensures { Exactly result (λ s. mark marks.now s ≡ 1) }
 {
-    RoleSet {
-        members: marks.map(|mark| mark == 1),
+    let mut members = [false; 64];
+    for (role, member) in members.iter_mut().enumerate() {
+        *member = marks[role] == 1;
     }
+    RoleSet { members }
 }
 
 // The roles that are one link further.
@@ -115,6 +117,7 @@ impl<'s, 'm, S: Store> Inquiry<'s, 'm, S> {
     }
 
     // Whether a walk from the roles of the start leads to a role that is the goal.
+    #[inline(always)]
     pub(crate) fn leads<A: Question, G: Question>(&mut self, start: &A, goal: &G) -> bool
         ensures value { Decides result
             (Leads (Link (facts_of self.old)) (A.says start.now (facts_of self.old)) (G.says goal.now (facts_of self.old))) }
@@ -126,6 +129,7 @@ impl<'s, 'm, S: Store> Inquiry<'s, 'm, S> {
     }
 
     // The roles that a walk from the roles of the start leads to.
+    #[inline(always)]
     pub(crate) fn roles_from<A: Question>(&mut self, start: &A, way: Way) -> RoleSet
         ensures value { Exactly result (From (Linked way (facts_of self.old)) (A.says start.now (facts_of self.old))) }
         ensures swept { Swept self.new.marks.now }
