@@ -53,8 +53,8 @@ impl<'s, 'm, S: Store> Inquiry<'s, 'm, S> {
     ghost use Rattle.rules.specs.Inquiries.{facts_of, Looks, Walks};
     ghost use Rattle.rules.specs.Roles.{pair, Party};
 
-    // Whether a fact is in the set after the change. The store is asked in one place, and a question goes through the functions
-    // with a hint to the compiler: without both, a look-up costs twice as much.
+    // Whether a fact is in the set after the change. The store is asked in one place, and the functions around a walk have a hint to
+    // be inlined: without both, a look-up costs twice as much.
     #[inline(always)]
     #[tactic(auto, unfolding(facts::specs::Facts::same_fact))]
     pub(crate) fn has(&mut self, fact: Fact) -> bool
