@@ -1,7 +1,7 @@
 // A small release, kept in any store, with a line for each call. What prints is handed the runtime beside the store: a struct of
 // the two would promise nothing of either.
 ghost use Rattle.std.specs.Prelude.{◌≡◌, IfOk};
-ghost use Rattle.cache.specs.Memory.{recalled};
+ghost use Rattle.cache.specs.Memory.{recalled, Faithful};
 ghost use Rattle.book_grid.specs.Steps.{Does};
 ghost use Rattle.book_grid.specs.declared.step.Answer.{Answer};
 
@@ -89,8 +89,10 @@ const RELEASE: [Step; 15] = [
 
 // Runs one step, and tells what it answers.
 pub(crate) fn show<S: Store>(rt: &impl Print, store: &mut S, step: Step) -> io::Result<()>
-    ensures does { (a : Answer) × Does step (S.facts store.old) (S.spare store.old) a
+    ensures does { S.sound store.old
+        → (a : Answer) × Does step (S.facts store.old) (S.spare store.old) a
         (S.facts store.new) (S.spare store.new) }
+    ensures kept { S.sound store.old → S.sound store.new }
     ensures outside { S.outside store.old store.new }
 {
     let answer = step.run(store);
@@ -99,7 +101,8 @@ pub(crate) fn show<S: Store>(rt: &impl Print, store: &mut S, step: Step) -> io::
 
 // Runs the steps one after the other.
 fn play<S: Store>(rt: &impl Print, store: &mut S, steps: &[Step]) -> io::Result<()>
-    ensures { S.outside store.old store.new }
+    ensures kept { S.sound store.old → S.sound store.new }
+    ensures outside { S.outside store.old store.new }
 {
     for step in steps {
         show(rt, store, *step)?;
@@ -109,7 +112,8 @@ fn play<S: Store>(rt: &impl Print, store: &mut S, steps: &[Step]) -> io::Result<
 
 // Keeps the release in a store, and tells how far its spare fell.
 pub(crate) fn keep_release<S: Store>(rt: &impl Print, store: &mut S) -> io::Result<()>
-    ensures { S.outside store.old store.new }
+    ensures kept { S.sound store.old → S.sound store.new }
+    ensures outside { S.outside store.old store.new }
 {
     let before = store.spare();
     play(rt, store, &RELEASE)?;
@@ -133,7 +137,8 @@ fn recollect<S: Store>(rt: &impl Print, cache: &Cache<S>, fact: Fact) -> io::Res
 
 // The same over a cache, and then what the cache remembers.
 pub(crate) fn keep_remembered<S: Store>(rt: &impl Print, store: &mut Cache<S>) -> io::Result<()>
-    ensures { S.outside store.old.below store.new.below }
+    ensures kept { Faithful S.sound S.facts store.old → Faithful S.sound S.facts store.new }
+    ensures outside { S.outside store.old.below store.new.below }
 {
     keep_release(rt, store)?;
     recollect(rt, store, ASSIGNED)?;

@@ -25,8 +25,10 @@ pub enum Answer {
 
 impl Step {
     pub(crate) fn run<S: Store>(self, store: &mut S) -> Answer
+        ensures kept { S.sound store.old → S.sound store.new }
         ensures outside { S.outside store.old store.new }
-        ensures does { Does self (S.facts store.old) (S.spare store.old) result
+        ensures does { S.sound store.old
+            → Does self (S.facts store.old) (S.spare store.old) result
             (S.facts store.new) (S.spare store.new) }
     {
         match self {

@@ -86,7 +86,8 @@ impl fmt::Display for Says {
 }
 
 fn load<S: Store>(store: &mut S)
-    ensures { S.outside store.old store.new }
+    ensures kept { S.sound store.old → S.sound store.new }
+    ensures outside { S.outside store.old store.new }
 {
     for (kind, a, b) in NETWORK {
         let _ = store.put(pair(kind, a, b));
@@ -156,7 +157,8 @@ fn show_changes<S: Store>(rt: &impl Print, store: &mut S) -> io::Result<()>
 
 // Loads the network into a store, and tells of some users and of some changes.
 pub(crate) fn show_network<S: Store>(rt: &impl Print, store: &mut S) -> io::Result<()>
-    ensures { S.outside store.old store.new }
+    ensures kept { S.sound store.old → S.sound store.new }
+    ensures outside { S.outside store.old store.new }
 {
     load(store);
     show_users(rt, store)?;

@@ -2,6 +2,7 @@ use Rattle.std.specs.Prelude.{◌≡◌, ℕ, ◌+◌, ◌*◌, ◌%◌, ◌<◌
 use Rattle.facts.specs.declared.fact.Fact.{Fact}
 use Rattle.facts.specs.Facts.{Facts, same_fact}
 use Rattle.cache.specs.declared.Answer.{Answer}
+use Rattle.cache.specs.declared.Cache.{Cache}
 
 -- the slots of a cache, each with an answer or none
 abbrev pub Slots : Type 0
@@ -41,3 +42,8 @@ pub record AtMost (n : ℕ) (P : Fact → Type 0) : Type 0 where
   pub number : Fact → ℕ
   pub below : (f : Fact) → P f → number f < n
   pub apart : (f g : Fact) → P f → P g → number f ≡ number g → f ≡ g
+
+-- a cache is faithful to the store below it
+pub record Faithful {S : Type 0} (sound : S → Type 0) (facts : S → Facts) (c : Cache S) : Type 0 where
+  pub lower : sound c.below
+  pub honest : Honest (facts c.below) c.slots

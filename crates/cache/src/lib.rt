@@ -5,7 +5,7 @@
 ghost use Rattle.std.specs.Prelude.{◌≡◌, ◌<◌, Bool, true, false, length, Some, None, Ok};
 ghost use Rattle.facts.specs.declared.fact.Fact.{Fact};
 ghost use Rattle.facts.specs.Stores.{Put, Take};
-ghost use Rattle.cache.specs.Memory.{slot_of, noted, recalled, Remembered, OthersStay, Honest, AtMost};
+ghost use Rattle.cache.specs.Memory.{slot_of, noted, recalled, Remembered, OthersStay, Honest, AtMost, Faithful};
 
 use facts::fact::Fact;
 use facts::refusal::Refusal;
@@ -21,10 +21,9 @@ struct Answer {
 
 // An array and no map: a cache asks for no memory, and forgets rather than grow.
 #[derive(Drop)]
-pub struct Cache<S: Store> {
+pub struct Cache<S> {
     below: S,
     slots: [Option<Answer>; SLOTS],
-    pub ghost honest: { Honest (S.facts below) slots },
 }
 
 #[tactic(auto, unfolding(crate::specs::Memory::slot_of))]
@@ -51,6 +50,8 @@ impl<S: Store> Cache<S> {
     pub fn new(below: S) -> Cache<S>
         ensures below { result.below ≡ below }
         ensures nothing { (f : Fact) → recalled result.slots f ≡ None }
+        ensures honest { Honest (S.facts below) result.slots }
+        ensures sound { S.sound below → Faithful S.sound S.facts result }
     {
         Cache {
             below,
@@ -61,7 +62,8 @@ impl<S: Store> Cache<S> {
     // The answer that is remembered of a fact.
     pub fn remembers(&self, fact: Fact) -> Option<bool>
         ensures value { result ≡ recalled self.now.slots fact }
-        ensures honest { (there : Bool) → result ≡ Some there → there ≡ S.facts self.now.below fact }
+        ensures honest { Faithful S.sound S.facts self.now
+            → (there : Bool) → result ≡ Some there → there ≡ S.facts self.now.below fact }
         ensures few { AtMost 64 (Remembered self.now.slots) }
     {
         self.slots[slot_of(fact)]
@@ -79,9 +81,11 @@ impl<S: Store> Store for Cache<S> {
 
     ghost spare = { λ c. S.spare c.below };
 
+    ghost sound = { λ c. Faithful S.sound S.facts c };
+
     ghost outside = { λ c d. S.outside c.below d.below };
 
-    ghost only = { λ c. S.only c.below };
+    ghost only = { λ c h. S.only c.below h.lower };
 
     ghost bounded = { λ c. S.bounded c.below };
 
@@ -94,7 +98,8 @@ impl<S: Store> Store for Cache<S> {
     }
 
     fn has(&mut self, fact: Fact) -> bool
-        ensures value { result ≡ S.facts self.old.below fact }
+        ensures value { Faithful S.sound S.facts self.old → result ≡ S.facts self.old.below fact }
+        ensures kept { Faithful S.sound S.facts self.old → Faithful S.sound S.facts self.new }
         ensures facts { S.facts self.new.below ≡ S.facts self.old.below }
         ensures spare { S.spare self.new.below ≡ S.spare self.old.below }
         ensures outside { S.outside self.old.below self.new.below }
@@ -111,7 +116,8 @@ impl<S: Store> Store for Cache<S> {
     }
 
     fn put(&mut self, fact: Fact) -> Result<(), Refusal>
-        ensures does { Put fact (S.facts self.old.below) (S.spare self.old.below) result
+        ensures kept { Faithful S.sound S.facts self.old → Faithful S.sound S.facts self.new }
+        ensures does { Faithful S.sound S.facts self.old → Put fact (S.facts self.old.below) (S.spare self.old.below) result
             (S.facts self.new.below) (S.spare self.new.below) }
         ensures outside { S.outside self.old.below self.new.below }
         ensures remembered { result ≡ Ok tt → recalled self.new.slots fact ≡ Some true }
@@ -124,7 +130,8 @@ impl<S: Store> Store for Cache<S> {
     }
 
     fn take(&mut self, fact: Fact)
-        ensures does { Take fact (S.facts self.old.below) (S.spare self.old.below)
+        ensures kept { Faithful S.sound S.facts self.old → Faithful S.sound S.facts self.new }
+        ensures does { Faithful S.sound S.facts self.old → Take fact (S.facts self.old.below) (S.spare self.old.below)
             (S.facts self.new.below) (S.spare self.new.below) }
         ensures outside { S.outside self.old.below self.new.below }
         ensures remembered { recalled self.new.slots fact ≡ Some false }

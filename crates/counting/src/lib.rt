@@ -53,9 +53,11 @@ impl<S: Store> Store for Counting<S> {
 
     ghost spare = { λ c. S.spare c.below };
 
+    ghost sound = { λ c. S.sound c.below };
+
     ghost outside = { λ c d. S.outside c.below d.below };
 
-    ghost only = { λ c. S.only c.below };
+    ghost only = { λ c h. S.only c.below h };
 
     ghost bounded = { λ c. S.bounded c.below };
 
@@ -68,7 +70,8 @@ impl<S: Store> Store for Counting<S> {
     }
 
     fn has(&mut self, fact: Fact) -> bool
-        ensures value { result ≡ S.facts self.old.below fact }
+        ensures value { S.sound self.old.below → result ≡ S.facts self.old.below fact }
+        ensures kept { S.sound self.old.below → S.sound self.new.below }
         ensures facts { S.facts self.new.below ≡ S.facts self.old.below }
         ensures spare { S.spare self.new.below ≡ S.spare self.old.below }
         ensures outside { S.outside self.old.below self.new.below }
@@ -80,7 +83,9 @@ impl<S: Store> Store for Counting<S> {
     }
 
     fn put(&mut self, fact: Fact) -> Result<(), Refusal>
-        ensures does { Put fact (S.facts self.old.below) (S.spare self.old.below) result
+        ensures kept { S.sound self.old.below → S.sound self.new.below }
+        ensures does { S.sound self.old.below
+            → Put fact (S.facts self.old.below) (S.spare self.old.below) result
             (S.facts self.new.below) (S.spare self.new.below) }
         ensures outside { S.outside self.old.below self.new.below }
         ensures asked { self.new.asked ≡ self.old.asked }
@@ -91,7 +96,9 @@ impl<S: Store> Store for Counting<S> {
     }
 
     fn take(&mut self, fact: Fact)
-        ensures does { Take fact (S.facts self.old.below) (S.spare self.old.below)
+        ensures kept { S.sound self.old.below → S.sound self.new.below }
+        ensures does { S.sound self.old.below
+            → Take fact (S.facts self.old.below) (S.spare self.old.below)
             (S.facts self.new.below) (S.spare self.new.below) }
         ensures outside { S.outside self.old.below self.new.below }
         ensures asked { self.new.asked ≡ self.old.asked }

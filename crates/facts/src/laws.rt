@@ -9,9 +9,11 @@ use crate::store::Store;
 // After a put the fact is there exactly when the put was accepted.
 #[tactic(auto, using(std::proofs::lemmas::Bool::Decides::nat_tests, crate::proofs::Sets::same_refl))]
 pub fn put_then_has<S: Store>(store: &mut S, added: Fact) -> (Result<(), Refusal>, bool)
+    ensures kept { S.sound store.old → S.sound store.new }
     ensures outside { S.outside store.old store.new }
-    ensures told { result.1 ≡ is_ok result.0 }
-    ensures does { Put added (S.facts store.old) (S.spare store.old) result.0
+    ensures told { S.sound store.old → result.1 ≡ is_ok result.0 }
+    ensures does { S.sound store.old
+        → Put added (S.facts store.old) (S.spare store.old) result.0
         (S.facts store.new) (S.spare store.new) }
 {
     let answer = store.put(added);
@@ -22,9 +24,11 @@ pub fn put_then_has<S: Store>(store: &mut S, added: Fact) -> (Result<(), Refusal
 // After a take the fact is not there.
 #[tactic(auto, using(std::proofs::lemmas::Bool::Decides::nat_tests, crate::proofs::Sets::same_refl))]
 pub fn take_then_has<S: Store>(store: &mut S, removed: Fact) -> bool
+    ensures kept { S.sound store.old → S.sound store.new }
     ensures outside { S.outside store.old store.new }
-    ensures told { result ≡ false }
-    ensures does { Take removed (S.facts store.old) (S.spare store.old)
+    ensures told { S.sound store.old → result ≡ false }
+    ensures does { S.sound store.old
+        → Take removed (S.facts store.old) (S.spare store.old)
         (S.facts store.new) (S.spare store.new) }
 {
     store.take(removed);
@@ -34,8 +38,10 @@ pub fn take_then_has<S: Store>(store: &mut S, removed: Fact) -> bool
 // Two puts of a fact answer and do what one does.
 #[tactic(auto, using(crate::proofs::Sets::put_again))]
 pub fn put_twice<S: Store>(store: &mut S, repeated: Fact) -> Result<(), Refusal>
+    ensures kept { S.sound store.old → S.sound store.new }
     ensures outside { S.outside store.old store.new }
-    ensures does { Put repeated (S.facts store.old) (S.spare store.old) result
+    ensures does { S.sound store.old
+        → Put repeated (S.facts store.old) (S.spare store.old) result
         (S.facts store.new) (S.spare store.new) }
 {
     let _ = store.put(repeated);
@@ -45,8 +51,10 @@ pub fn put_twice<S: Store>(store: &mut S, repeated: Fact) -> Result<(), Refusal>
 // A put and a take of a fact do what the take alone does.
 #[tactic(auto, using(crate::proofs::Sets::put_taken))]
 pub fn put_then_take<S: Store>(store: &mut S, passing: Fact)
+    ensures kept { S.sound store.old → S.sound store.new }
     ensures outside { S.outside store.old store.new }
-    ensures does { Take passing (S.facts store.old) (S.spare store.old)
+    ensures does { S.sound store.old
+        → Take passing (S.facts store.old) (S.spare store.old)
         (S.facts store.new) (S.spare store.new) }
 {
     let _ = store.put(passing);

@@ -92,7 +92,7 @@ impl<'a> Store for Grid<'a> {
 
     ghost outside = { λ g h. GridKeeps g.bytes h.bytes };
 
-    ghost only = { λ g. grid_only g.bytes.now };
+    ghost only = { λ g _. grid_only g.bytes.now };
 
     ghost bounded = { λ g. grid_bounded g.bytes.now g.count };
 

@@ -58,7 +58,7 @@ impl<'a> Store for List<'a> {
 
     ghost outside = { λ s t. SameBeyond 4096 s.places t.places };
 
-    ghost only = { λ s. only_facts s.places.now s.used s.tidy };
+    ghost only = { λ s _. only_facts s.places.now s.used s.tidy };
 
     ghost bounded = { λ s. within_most s.places.now s.used };
 

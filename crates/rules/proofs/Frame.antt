@@ -2,16 +2,22 @@ use Rattle.std.proofs.Common.{ℕ, List, length, refl, ap, ◌∙◌, subst, ari
 use Rattle.facts.specs.declared.store.Store.{Ghosts}
 use Rattle.rules.specs.declared.inquiry.Inquiry.{Inquiry}
 use Rattle.rules.specs.Asking.{Asks}
-use Rattle.rules.specs.Inquiries.{Used, Looks, Walks}
+use Rattle.facts.specs.Stores.{Only}
+use Rattle.rules.specs.Inquiries.{facts_of, Used, Looks, Walks}
+
+-- in a sound store only facts are in the set that an inquiry is about
+pub only_of : {S : Type 0} {st : Ghosts S} (i : Inquiry S st) → st.sound i.store.now → Only (facts_of i)
+only_of {st = st} i h = i.proper (st.facts i.store.now) (st.only i.store.now h)
 
 -- a call that does nothing, and one call after another
 pub asks_none : {S : Type 0} (st : Ghosts S) (s : S) → Asks st s s
-asks_none st s = record { facts = refl; spare = refl; outside = st.unmoved s }
+asks_none st s = record { facts = refl; spare = refl; kept = λ h. h; outside = st.unmoved s }
 
 pub asks_on : {S : Type 0} (st : Ghosts S) {s t u : S} → Asks st s t → Asks st t u → Asks st s u
 asks_on st {s} {t} {u} p q = record {
   facts = q.facts ∙ p.facts;
   spare = q.spare ∙ p.spare;
+  kept = λ h. q.kept (p.kept h);
   outside = st.chained s t u p.outside q.outside;
 }
 

@@ -99,7 +99,7 @@ impl Trial for Rivals {
 impl<'s, 'm, S: Store> Inquiry<'s, 'm, S> {
     // Whether a role of one set and a role of the other conflict, or do not, as asked.
     pub(crate) fn meet(&mut self, one: RoleSet, two: RoleSet, conflicting: bool) -> bool
-        ensures value { Decides result (Meet (Among one) (Among two) conflicting (facts_of self.old)) }
+        ensures value { S.sound self.old.store.now → Decides result (Meet (Among one) (Among two) conflicting (facts_of self.old)) }
         ensures walks { Walks self.old self.new }
     {
         let between = Between {
@@ -111,9 +111,9 @@ impl<'s, 'm, S: Store> Inquiry<'s, 'm, S> {
     }
 
     // Whether an item conflicts with another, and two of their roles do not conflict.
-    #[tactic(auto, using(crate::proofs::Broken::decides_mixed))]
+    #[tactic(auto, using(crate::proofs::Broken::decides_mixed, crate::proofs::Frame::only_of))]
     pub(crate) fn mixed(&mut self, kinds: ItemKinds, item: u8) -> bool
-        ensures value { Decides result (Mixed kinds.assigned kinds.conflict (facts_of self.old) item) }
+        ensures value { S.sound self.old.store.now → Decides result (Mixed kinds.assigned kinds.conflict (facts_of self.old) item) }
         ensures walks { Walks self.old self.new }
     {
         let opposed = Opposed {
@@ -127,7 +127,7 @@ impl<'s, 'm, S: Store> Inquiry<'s, 'm, S> {
     // Whether a user's party holds two conflicting roles between them.
     #[tactic(auto, using(crate::proofs::Frame::walks_on))]
     pub(crate) fn party_holds_conflict(&mut self, user: u8) -> bool
-        ensures value { Decides result (Breaks PartiesApart (facts_of self.old) user) }
+        ensures value { S.sound self.old.store.now → Decides result (Breaks PartiesApart (facts_of self.old) user) }
         ensures walks { Walks self.old self.new }
     {
         let held = self.held_by(user);

@@ -15,7 +15,7 @@ pub(crate) struct Inquiry<'s, 'm, S: Store> {
     pub(crate) store: &'s mut S,
     pub(crate) change: Change,
     pub(crate) marks: &'m mut [u8; 64],
-    ghost only: { Only (after (S.facts store.now) change) },
+    ghost proper: { (m : Facts) → Only m → Only (after m change) },
 }
 
 // What can be asked of each number in turn by look-ups alone. A walk asks in mid-way, so the marks stay; what is tried below
@@ -28,7 +28,7 @@ pub(crate) trait Question {
     ghost says: { Self → Facts → ℕ → Type 0 };
 
     fn ask<S: Store>(&self, inquiry: &mut Inquiry<S>, n: u8) -> bool
-        ensures value { Decides result (says self.now (facts_of inquiry.old) n) }
+        ensures value { S.sound inquiry.old.store.now → Decides result (says self.now (facts_of inquiry.old) n) }
         ensures looks { Looks inquiry.old inquiry.new };
 }
 
@@ -41,7 +41,7 @@ pub(crate) trait Trial {
     ghost shows: { Self → Facts → ℕ → Type 0 };
 
     fn run<S: Store>(&self, inquiry: &mut Inquiry<S>, n: u8) -> bool
-        ensures value { Decides result (shows self.now (facts_of inquiry.old) n) }
+        ensures value { S.sound inquiry.old.store.now → Decides result (shows self.now (facts_of inquiry.old) n) }
         ensures walks { Walks inquiry.old inquiry.new };
 }
 
@@ -58,7 +58,7 @@ impl<'s, 'm, S: Store> Inquiry<'s, 'm, S> {
     #[inline(always)]
     #[tactic(auto, unfolding(facts::specs::Facts::same_fact))]
     pub(crate) fn has(&mut self, fact: Fact) -> bool
-        ensures value { result ≡ facts_of self.old fact }
+        ensures value { S.sound self.old.store.now → result ≡ facts_of self.old fact }
         ensures looks { Looks self.old self.new }
     {
         let change = self.change;
@@ -71,7 +71,7 @@ impl<'s, 'm, S: Store> Inquiry<'s, 'm, S> {
 
     // Whether two things conflict, or are at odds, after the change.
     pub(crate) fn pairs(&mut self, kind: Kind, x: u8, y: u8) -> bool
-        ensures value { result ≡ facts_of self.old (pair kind x y) }
+        ensures value { S.sound self.old.store.now → result ≡ facts_of self.old (pair kind x y) }
         ensures looks { Looks self.old self.new }
     {
         self.has(Fact::new(kind, x.min(y), x.max(y), 0))
@@ -79,7 +79,7 @@ impl<'s, 'm, S: Store> Inquiry<'s, 'm, S> {
 
     // Whether two users are one party after the change.
     pub(crate) fn party(&mut self, u: u8, v: u8) -> bool
-        ensures value { Decides result (Party (facts_of self.old) u v) }
+        ensures value { S.sound self.old.store.now → Decides result (Party (facts_of self.old) u v) }
         ensures looks { Looks self.old self.new }
     {
         u == v || self.pairs(Kind::UserConflict, u, v)
@@ -87,7 +87,7 @@ impl<'s, 'm, S: Store> Inquiry<'s, 'm, S> {
 
     // Whether some number below the end passes.
     pub(crate) fn any<T: Trial>(&mut self, trial: &T, end: u8) -> bool
-        ensures value { Decides result ((n : ℕ) × (n < end) × T.shows trial.now (facts_of self.old) n) }
+        ensures value { S.sound self.old.store.now → Decides result ((n : ℕ) × (n < end) × T.shows trial.now (facts_of self.old) n) }
         ensures walks { Walks self.old self.new }
     {
         // A chain was tried, and its proof does not close: what a closure does to the inquiry that it captures is lost.
@@ -102,7 +102,7 @@ impl<'s, 'm, S: Store> Inquiry<'s, 'm, S> {
     // The roles that answer yes.
     #[inline(always)]
     pub(crate) fn collect<Q: Question>(&mut self, question: &Q) -> RoleSet
-        ensures value { Exactly result (Q.says question.now (facts_of self.old)) }
+        ensures value { S.sound self.old.store.now → Exactly result (Q.says question.now (facts_of self.old)) }
         ensures looks { Looks self.old self.new }
     {
         let mut members = [false; 64];

@@ -117,7 +117,7 @@ impl<'s, 'm, S: Store> Inquiry<'s, 'm, S> {
     // The same suspects, by the roles that reach the role that they are found by.
     #[tactic(auto, using(crate::proofs::Scopes::reachers_scoped, crate::proofs::Scopes::holders_scoped, crate::proofs::Scopes::taken_scoped))]
     fn find(&mut self, suspects: Suspects<u8>) -> Suspects<RoleSet>
-        ensures value { Scoped suspects result (facts_of self.old) }
+        ensures value { S.sound self.old.store.now → Scoped suspects result (facts_of self.old) }
         ensures walks { Walks self.old self.new }
     {
         match suspects {
@@ -133,7 +133,7 @@ impl<'s, 'm, S: Store> Inquiry<'s, 'm, S> {
 
     // Whether the rule is broken at a role, a user, a permission or a task. By cases, as what breaks a rule is defined.
     fn breaks(&mut self, rule: Rule, x: u8) -> bool
-        ensures value { Decides result (Breaks rule (facts_of self.old) x) }
+        ensures value { S.sound self.old.store.now → Decides result (Breaks rule (facts_of self.old) x) }
         ensures walks { Walks self.old self.new }
     {
         match rule {
@@ -147,7 +147,7 @@ impl<'s, 'm, S: Store> Inquiry<'s, 'm, S> {
     }
 
     fn reaches_conflict(&mut self, role: u8) -> bool
-        ensures value { Decides result (Breaks RolesApart (facts_of self.old) role) }
+        ensures value { S.sound self.old.store.now → Decides result (Breaks RolesApart (facts_of self.old) role) }
         ensures walks { Walks self.old self.new }
     {
         let reached = self.roles_from(&Is(role), Way::Down);
@@ -155,9 +155,9 @@ impl<'s, 'm, S: Store> Inquiry<'s, 'm, S> {
     }
 
     // Whether the rule is broken at a suspect.
-    #[tactic(auto, using(crate::proofs::Broken::breaking))]
+    #[tactic(auto, using(crate::proofs::Broken::breaking, crate::proofs::Frame::only_of))]
     fn broken_at(&mut self, rule: Rule, suspects: Suspects<u8>) -> bool
-        ensures value { Decides result ((x : ℕ) × Suspected suspects (facts_of self.old) x × Breaks rule (facts_of self.old) x) }
+        ensures value { S.sound self.old.store.now → Decides result ((x : ℕ) × Suspected suspects (facts_of self.old) x × Breaks rule (facts_of self.old) x) }
         ensures walks { Walks self.old self.new }
     {
         let suspects = self.find(suspects);
@@ -165,9 +165,9 @@ impl<'s, 'm, S: Store> Inquiry<'s, 'm, S> {
     }
 
     // Whether the facts keep the rule after the change.
-    #[tactic(auto, using(crate::proofs::Broken::decides_kept))]
+    #[tactic(auto, using(crate::proofs::Broken::decides_kept, crate::proofs::Frame::only_of))]
     fn keeps(&mut self, judgement: Judgement, rule: Rule) -> bool
-        ensures value { Held judgement rule (S.facts self.old.store.now) → Decides result (Keeps rule (facts_of self.old)) }
+        ensures value { S.sound self.old.store.now → Held judgement rule (S.facts self.old.store.now) → Decides result (Keeps rule (facts_of self.old)) }
         ensures walks { Walks self.old self.new }
     {
         let suspects = judgement.suspects(rule, self.change);
@@ -177,7 +177,7 @@ impl<'s, 'm, S: Store> Inquiry<'s, 'm, S> {
     // The first rule that the facts break after the change.
     #[tactic(auto, using(crate::proofs::Frame::walks_on))]
     fn first_broken(&mut self, judgement: Judgement) -> Option<Rule>
-        ensures value { ((q : Rule) → Held judgement q (S.facts self.old.store.now)) → First (facts_of self.old) result }
+        ensures value { S.sound self.old.store.now → ((q : Rule) → Held judgement q (S.facts self.old.store.now)) → First (facts_of self.old) result }
         ensures walks { Walks self.old self.new }
     {
         // No chain, for the reason given at `any`.
@@ -218,7 +218,7 @@ fn judge_by<S: Store>(
     sheet: &mut [u8],
 ) -> Result<Option<Rule>, Refusal>
     ensures answer { Answered (Proper change) (length sheet.old) result
-        (λ o. ((q : Rule) → Held judgement q (S.facts store.old)) → First (after (S.facts store.old) change) o) }
+        (λ o. S.sound store.old → ((q : Rule) → Held judgement q (S.facts store.old)) → First (after (S.facts store.old) change) o) }
     ensures sheet { Sheet result sheet.old sheet.new }
     ensures asks { Asks S.Store store.old store.new }
 {
@@ -239,7 +239,7 @@ pub fn judge<S: Store>(
     sheet: &mut [u8],
 ) -> Result<Option<Rule>, Refusal>
     ensures answer { Answered (Proper change) (length sheet.old) result
-        (λ o. First (after (S.facts store.old) change) o) }
+        (λ o. S.sound store.old → First (after (S.facts store.old) change) o) }
     ensures sheet { Sheet result sheet.old sheet.new }
     ensures asks { Asks S.Store store.old store.new }
 {
@@ -253,7 +253,7 @@ pub fn judge_quickly<S: Store>(
     sheet: &mut [u8],
 ) -> Result<Option<Rule>, Refusal>
     ensures answer { Answered (Proper change) (length sheet.old) result
-        (λ o. ((q : Rule) → Keeps q (S.facts store.old)) → First (after (S.facts store.old) change) o) }
+        (λ o. S.sound store.old → ((q : Rule) → Keeps q (S.facts store.old)) → First (after (S.facts store.old) change) o) }
     ensures sheet { Sheet result sheet.old sheet.new }
     ensures asks { Asks S.Store store.old store.new }
 {

@@ -40,7 +40,7 @@ impl<'s, 'm, S: Store> Inquiry<'s, 'm, S> {
     #[inline(always)]
     #[tactic(auto, using(crate::proofs::Reach::decides_above))]
     pub(crate) fn is_above(&mut self, senior: u8, junior: u8) -> bool
-        ensures value { Decides result (Above (facts_of self.old) senior junior) }
+        ensures value { S.sound self.old.store.now → Decides result (Above (facts_of self.old) senior junior) }
         ensures walks { Walks self.old self.new }
     {
         let juniors = Next {
@@ -54,7 +54,7 @@ impl<'s, 'm, S: Store> Inquiry<'s, 'm, S> {
     #[inline(always)]
     #[tactic(auto, using(crate::proofs::Reach::decides_holding))]
     pub(crate) fn user_holds(&mut self, user: u8, role: u8) -> bool
-        ensures value { Decides result (Holds (facts_of self.old) user role) }
+        ensures value { S.sound self.old.store.now → Decides result (Holds (facts_of self.old) user role) }
         ensures walks { Walks self.old self.new }
     {
         self.leads(&RolesOf(Kind::UserRole, user), &Is(role))
@@ -64,7 +64,7 @@ impl<'s, 'm, S: Store> Inquiry<'s, 'm, S> {
     #[inline(always)]
     #[tactic(auto, using(crate::proofs::Reach::decides_having))]
     pub(crate) fn user_has(&mut self, user: u8, permission: u8) -> bool
-        ensures value { Decides result (Has (facts_of self.old) user permission) }
+        ensures value { S.sound self.old.store.now → Decides result (Has (facts_of self.old) user permission) }
         ensures walks { Walks self.old self.new }
     {
         self.leads(
@@ -77,7 +77,7 @@ impl<'s, 'm, S: Store> Inquiry<'s, 'm, S> {
     #[inline(always)]
     #[tactic(auto, using(crate::proofs::Reach::exactly_held))]
     pub(crate) fn held_by(&mut self, user: u8) -> RoleSet
-        ensures value { Exactly result (Holds (facts_of self.old) user) }
+        ensures value { S.sound self.old.store.now → Exactly result (Holds (facts_of self.old) user) }
         ensures walks { Walks self.old self.new }
     {
         self.roles_from(&RolesOf(Kind::UserRole, user), Way::Down)

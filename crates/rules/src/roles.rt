@@ -25,7 +25,7 @@ pub fn reaches<S: Store>(
     sheet: &mut [u8],
 ) -> Result<bool, Refusal>
     ensures answer { Answered ((senior < 64) × (junior < 64)) (length sheet.old) result
-        (λ b. Decides b (Reaches (S.facts store.old) senior junior)) }
+        (λ b. S.sound store.old → Decides b (Reaches (S.facts store.old) senior junior)) }
     ensures sheet { Sheet result sheet.old sheet.new }
     ensures asks { Asks S.Store store.old store.new }
 {
@@ -47,7 +47,7 @@ pub fn lies_above<S: Store>(
     sheet: &mut [u8],
 ) -> Result<bool, Refusal>
     ensures answer { Answered ((senior < 64) × (junior < 64)) (length sheet.old) result
-        (λ b. Decides b (Above (S.facts store.old) senior junior)) }
+        (λ b. S.sound store.old → Decides b (Above (S.facts store.old) senior junior)) }
     ensures sheet { Sheet result sheet.old sheet.new }
     ensures asks { Asks S.Store store.old store.new }
 {
@@ -69,7 +69,7 @@ pub fn holds<S: Store>(
     sheet: &mut [u8],
 ) -> Result<bool, Refusal>
     ensures answer { Answered ((user < 128) × (role < 64)) (length sheet.old) result
-        (λ b. Decides b (Holds (S.facts store.old) user role)) }
+        (λ b. S.sound store.old → Decides b (Holds (S.facts store.old) user role)) }
     ensures sheet { Sheet result sheet.old sheet.new }
     ensures asks { Asks S.Store store.old store.new }
 {
@@ -91,7 +91,7 @@ pub fn carries<S: Store>(
     sheet: &mut [u8],
 ) -> Result<bool, Refusal>
     ensures answer { Answered ((role < 64) × (permission < 64)) (length sheet.old) result
-        (λ b. Decides b (Carries (S.facts store.old) role permission)) }
+        (λ b. S.sound store.old → Decides b (Carries (S.facts store.old) role permission)) }
     ensures sheet { Sheet result sheet.old sheet.new }
     ensures asks { Asks S.Store store.old store.new }
 {
@@ -113,7 +113,7 @@ pub fn has_permission<S: Store>(
     sheet: &mut [u8],
 ) -> Result<bool, Refusal>
     ensures answer { Answered ((user < 128) × (permission < 64)) (length sheet.old) result
-        (λ b. Decides b (Has (S.facts store.old) user permission)) }
+        (λ b. S.sound store.old → Decides b (Has (S.facts store.old) user permission)) }
     ensures sheet { Sheet result sheet.old sheet.new }
     ensures asks { Asks S.Store store.old store.new }
 {
@@ -134,7 +134,7 @@ pub fn roles_reached<S: Store>(
     sheet: &mut [u8],
 ) -> Result<RoleSet, Refusal>
     ensures answer { Answered (role < 64) (length sheet.old) result
-        (λ x. Exactly x (Reaches (S.facts store.old) role)) }
+        (λ x. S.sound store.old → Exactly x (Reaches (S.facts store.old) role)) }
     ensures sheet { Sheet result sheet.old sheet.new }
     ensures asks { Asks S.Store store.old store.new }
 {
@@ -151,7 +151,7 @@ pub fn roles_reached<S: Store>(
 // The roles that a user holds.
 pub fn roles_held<S: Store>(store: &mut S, user: u32, sheet: &mut [u8]) -> Result<RoleSet, Refusal>
     ensures answer { Answered (user < 128) (length sheet.old) result
-        (λ x. Exactly x (Holds (S.facts store.old) user)) }
+        (λ x. S.sound store.old → Exactly x (Holds (S.facts store.old) user)) }
     ensures sheet { Sheet result sheet.old sheet.new }
     ensures asks { Asks S.Store store.old store.new }
 {

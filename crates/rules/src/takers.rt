@@ -91,21 +91,21 @@ impl Trial for Odds {
 
 impl<'s, 'm, S: Store> Inquiry<'s, 'm, S> {
     pub(crate) fn is_open(&mut self, case: u8) -> bool
-        ensures value { Decides result (Open (facts_of self.old) case) }
+        ensures value { S.sound self.old.store.now → Decides result (Open (facts_of self.old) case) }
         ensures looks { Looks self.old self.new }
     {
         self.has(Fact::new(Kind::OpenCase, case, 0, 0))
     }
 
     pub(crate) fn has_taken(&mut self, case: u8, task: u8, user: u8) -> bool
-        ensures value { Decides result (HasTaken (facts_of self.old) case task user) }
+        ensures value { S.sound self.old.store.now → Decides result (HasTaken (facts_of self.old) case task user) }
         ensures looks { Looks self.old self.new }
     {
         self.has(Fact::new(Kind::Taken, case, task, user))
     }
 
     fn at_odds(&mut self, t: u8, q: u8) -> bool
-        ensures value { Decides result (AtOdds (facts_of self.old) t q) }
+        ensures value { S.sound self.old.store.now → Decides result (AtOdds (facts_of self.old) t q) }
         ensures looks { Looks self.old self.new }
     {
         self.pairs(Kind::AtOdds, t, q)
@@ -114,7 +114,7 @@ impl<'s, 'm, S: Store> Inquiry<'s, 'm, S> {
     // Whether a party has taken the task and one at odds with it in one open case.
     #[tactic(auto, using(crate::proofs::Broken::decides_took))]
     pub(crate) fn party_took_both(&mut self, task: u8) -> bool
-        ensures value { Decides result (Breaks TakersApart (facts_of self.old) task) }
+        ensures value { S.sound self.old.store.now → Decides result (Breaks TakersApart (facts_of self.old) task) }
         ensures walks { Walks self.old self.new }
     {
         self.any(&Odds(task), 32)

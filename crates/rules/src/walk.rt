@@ -93,9 +93,9 @@ impl<'s, 'm, S: Store> Inquiry<'s, 'm, S> {
     // Walks from the roles of a set, and tells whether it comes to one that is the goal. It asks this of each role before it goes
     // on from it, and ends there. A walk that came to none has marked exactly the roles that it came to.
     fn walk<G: Question>(&mut self, first: &RoleSet, way: Way, goal: &G) -> bool
-        ensures value { Decides result
+        ensures value { S.sound self.old.store.now → Decides result
             (Leads (Linked way (facts_of self.old)) (Among first.now) (G.says goal.now (facts_of self.old))) }
-        ensures marks { result ≡ false → Walked (Linked way (facts_of self.old)) (Among first.now) self.new.marks.now }
+        ensures marks { S.sound self.old.store.now → result ≡ false → Walked (Linked way (facts_of self.old)) (Among first.now) self.new.marks.now }
         ensures swept { Swept self.new.marks.now }
         ensures walks { Walks self.old self.new }
     {
@@ -119,7 +119,7 @@ impl<'s, 'm, S: Store> Inquiry<'s, 'm, S> {
     // Whether a walk from the roles of the start leads to a role that is the goal.
     #[inline(always)]
     pub(crate) fn leads<A: Question, G: Question>(&mut self, start: &A, goal: &G) -> bool
-        ensures value { Decides result
+        ensures value { S.sound self.old.store.now → Decides result
             (Leads (Link (facts_of self.old)) (A.says start.now (facts_of self.old)) (G.says goal.now (facts_of self.old))) }
         ensures swept { Swept self.new.marks.now }
         ensures walks { Walks self.old self.new }
@@ -131,7 +131,7 @@ impl<'s, 'm, S: Store> Inquiry<'s, 'm, S> {
     // The roles that a walk from the roles of the start leads to.
     #[inline(always)]
     pub(crate) fn roles_from<A: Question>(&mut self, start: &A, way: Way) -> RoleSet
-        ensures value { Exactly result (From (Linked way (facts_of self.old)) (A.says start.now (facts_of self.old))) }
+        ensures value { S.sound self.old.store.now → Exactly result (From (Linked way (facts_of self.old)) (A.says start.now (facts_of self.old))) }
         ensures swept { Swept self.new.marks.now }
         ensures walks { Walks self.old self.new }
     {

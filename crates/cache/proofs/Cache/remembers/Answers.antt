@@ -8,4 +8,4 @@ pub returns : goal.returns
 unfolding recalled same_fact
 returns g c =
     let v : c.map.result ≡ recalled c.args.self.now.slots c.args.fact = search rules in
-    record { value = v; honest = λ b e. c.args.self.now.honest c.args.fact b (sym v ∙ e); few = few _ }
+    record { value = v; honest = λ h b e. h.honest c.args.fact b (sym v ∙ e); few = few _ }

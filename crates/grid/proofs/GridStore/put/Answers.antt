@@ -13,4 +13,4 @@ pub invariant_of-self : goal.invariant_of-self
 invariant_of-self c = record { counted = put_counted (turned (goal.at.invariant_of-self c).After-flip) }
 
 pub returns-clause-does : goal.returns-clause-does
-returns-clause-does c = put_does (turned (goal.at.returns-clause-does c).After-flip)
+returns-clause-does c _ = put_does (turned (goal.at.returns-clause-does c).After-flip)

@@ -13,4 +13,4 @@ pub invariant_of-self : goal.invariant_of-self
 invariant_of-self c = record { counted = take_counted (turned (goal.at.invariant_of-self c).After-flip) }
 
 pub returns-then-holds-clause-does : goal.returns-then-holds-clause-does
-returns-then-holds-clause-does c = take_does (turned (goal.at.returns-then-holds-clause-does c).After-flip)
+returns-then-holds-clause-does c _ = take_does (turned (goal.at.returns-then-holds-clause-does c).After-flip)

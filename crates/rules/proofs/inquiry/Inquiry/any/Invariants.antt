@@ -5,4 +5,4 @@ use Rattle.rules.proofs.inquiry.Inquiry.any.Given as goal
 abbrev pub invariant-loop-n : goal.invariant-loop-n
 invariant-loop-n g l =
     Walks l.initial.self l.self
-    × ((k : ℕ) → k < l.n → ¬ (g.T.Trial.shows l.trial (facts_of l.initial.self) k))
+    × (g.S.Store.sound l.initial.self.store.now → (k : ℕ) → k < l.n → ¬ (g.T.Trial.shows l.trial (facts_of l.initial.self) k))

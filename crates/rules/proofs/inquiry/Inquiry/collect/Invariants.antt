@@ -7,4 +7,4 @@ abbrev pub invariant-loop-role : goal.invariant-loop-role
 invariant-loop-role g l =
     Looks l.initial.self l.self
     × (length l.member-items ≡ 64)
-    × ((k : ℕ) → k < l.role → Decides (get_or l.member-items k false) (g.Q.Question.says l.question (facts_of l.initial.self) k))
+    × (g.S.Store.sound l.initial.self.store.now → (k : ℕ) → k < l.role → Decides (get_or l.member-items k false) (g.Q.Question.says l.question (facts_of l.initial.self) k))

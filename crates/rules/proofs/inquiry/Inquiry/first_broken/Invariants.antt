@@ -7,6 +7,6 @@ use Rattle.rules.proofs.inquiry.Inquiry.first_broken.Given as goal
 
 abbrev pub invariant-loop-rule : goal.invariant-loop-rule
 invariant-loop-rule g l =
-    (((q : Rule) → Held l.judgement q (g.S.Store.facts l.initial.self.store.now))
+    (g.S.Store.sound l.initial.self.store.now → ((q : Rule) → Held l.judgement q (g.S.Store.facts l.initial.self.store.now))
     → (q : Rule) → rule_number q < l.rule-index + 1 → Keeps q (facts_of l.initial.self))
     × Walks l.initial.self l.self

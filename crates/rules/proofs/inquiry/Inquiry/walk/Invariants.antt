@@ -8,7 +8,7 @@ abbrev pub invariant-loop-role : goal.invariant-loop-role
 invariant-loop-role g l =
     let m = facts_of l.initial.self in
     Small l.self.marks.now
-    × Walking (Linked l.way m) (Among l.first) (g.G.Question.says l.goal m) l.self.marks.now
+    × (g.S.Store.sound l.initial.self.store.now → Walking (Linked l.way m) (Among l.first) (g.G.Question.says l.goal m) l.self.marks.now)
     × Asks g.S.Store l.initial.self.store.now l.self.store.now
     × (facts_of l.self ≡ m)
     × (l.self.store.ghost_name ≡ l.initial.self.store.ghost_name)
